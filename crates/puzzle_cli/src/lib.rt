@@ -1,0 +1,7 @@
+//! The commands of `tpz`, from the words of the command line and the bytes of its devices to a status.
+#![tactic(auto)]
+
+mod numbering;
+mod part_buffer;
+mod part_text;
+mod root_order;
