@@ -1,0 +1,6 @@
+//! Reads a plain mesh: a PLY text in ASCII with one fixed header, whole coordinates and triangles.
+#![tactic(auto)]
+
+mod plain;
+
+pub use plain::{Plain, PlainFault, read_plain};
