@@ -1,0 +1,46 @@
+// Numbers in their one decimal spelling, and given bytes, taken from the front of the input.
+ghost use Rattle.std.specs.Prelude.{◌≡◌, ◌≢◌, ◌^◌, ◌<◌, ◌≤◌, ℕ, List, [], ◌∷◌, ◌++◌, IfOk, IfSome, IfNone, IsErrOf, OnOk, decimal};
+ghost use Rattle.std.specs.Option.{ForSome};
+ghost use Rattle.tpz_io.specs.Causes.{HasCause, Rose};
+ghost use Rattle.tpz_io.specs.Told.{ahead};
+ghost use Rattle.ply_body.specs.Numbers.{NoNumberBegins, IsNoFront};
+
+use crate::plain::PlainFault;
+use tpz_io::{Failed, Reader, Source};
+
+// The number of a first digit, if it is below the limit.
+#[tactic(auto, using(crate::proofs::Digits::first_digit, crate::proofs::Digits::not_first, crate::proofs::Digits::first_too_large))]
+fn first_number(byte: u8, limit: u32) -> Option<u32>
+    ensures number { IfSome result (λ n. byte ∷ [] ≡ decimal n) }
+    ensures fits { IfSome result (λ n. n < limit) }
+    ensures none { IfNone result ((end : ℕ) (more : List ℕ) → end < 45 → NoNumberBegins limit end (byte ∷ more)) }
+{
+    if !byte.is_ascii_digit() {
+        return None;
+    }
+    let n = u32::from(byte - b'0');
+    if n < limit { Some(n) } else { None }
+}
+
+// The number with one more digit, if it is one and below the limit. A number has no zero in front.
+#[tactic(auto, using(crate::proofs::Digits::more_digit, crate::proofs::Digits::other_byte, crate::proofs::Digits::zero_in_front, crate::proofs::Digits::too_large))]
+fn longer_number(n: u32, byte: u8, limit: u32) -> Option<u32>
+    requires { n < limit }
+    ensures number { IfSome result (λ m. decimal n ++ byte ∷ [] ≡ decimal m) }
+    ensures fits { IfSome result (λ m. m < limit) }
+    ensures grows { IfSome result (λ m. n < m) }
+    ensures none { IfNone result ((end : ℕ) (more : List ℕ) → end < 45 → byte ≢ end → NoNumberBegins limit end (decimal n ++ byte ∷ more)) }
+{
+    if !byte.is_ascii_digit() {
+        return None;
+    }
+    if n == 0 {
+        return None;
+    }
+    let longer = u64::from(n) * 10 + u64::from(byte - b'0');
+    if longer < u64::from(limit) {
+        Some(longer as u32)
+    } else {
+        None
+    }
+}
