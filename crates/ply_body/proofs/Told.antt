@@ -1,5 +1,6 @@
 -- What is said of told bytes, by what is said of those behind a front of them.
 use Rattle.std.proofs.Common.{◌≡◌, ℕ, List, [], ◌∷◌, ◌++◌, refl, sym, ◌∙◌, ap, subst}
+use Rattle.std.proofs.lemmas.List.{append-nil}
 use Rattle.std.specs.Option.{ForSome}
 use Rattle.std.specs.declared.option.Option.{Option}
 use Rattle.std.specs.declared.option.Option.TheVariants.{None, Some}
@@ -22,3 +23,23 @@ pub told_behind : (P Q : Bytes → Type 0) (old mid : Option Bytes) (front : Byt
 told_behind P Q old mid front is follows all whole told =
     let it = behind old mid front whole is told in
     subst P (sym it.same) (follows it.rest (all it.rest it.told))
+
+-- a byte behind those that were seen, of which all but the front were told
+pub refused_at : (P : Bytes → Type 0) (old mid new : Option Bytes) (front seen : Bytes) (byte : ℕ)
+    → ahead front old ≡ ahead seen mid → mid ≡ ahead (byte ∷ []) new → ((more : Bytes) → P (seen ++ byte ∷ more))
+    → ForSome old (λ bytes. P (front ++ bytes))
+refused_at P old mid None front seen byte taken next none bytes told = absurd (cc)
+refused_at P old mid (Some more) front seen byte taken next none bytes told =
+    let whole : Some (front ++ bytes) ≡ Some (seen ++ byte ∷ more) = ap (ahead front) (sym told) ∙ taken ∙ ap (ahead seen) next in
+    let same : seen ++ byte ∷ more ≡ front ++ bytes = cc in
+    subst P same (none more)
+
+-- the end of the input behind them
+pub ended_at : (P : Bytes → Type 0) (old mid : Option Bytes) (front seen : Bytes)
+    → ahead front old ≡ ahead seen mid → ForSome mid (λ rest. rest ≡ []) → P seen → ForSome old (λ bytes. P (front ++ bytes))
+ended_at P old None front seen taken end none bytes told = absurd (cc)
+ended_at P old (Some rest) front seen taken end none bytes told =
+    let whole : Some (front ++ bytes) ≡ Some (seen ++ rest) = ap (ahead front) (sym told) ∙ taken in
+    let nothing : rest ≡ [] = end rest refl in
+    let same : seen ++ rest ≡ front ++ bytes = cc in
+    subst P (sym (append-nil seen) ∙ ap (λ (l : Bytes). seen ++ l) (sym nothing) ∙ same) none

@@ -44,3 +44,59 @@ fn longer_number(n: u32, byte: u8, limit: u32) -> Option<u32>
         None
     }
 }
+
+// Goes on with a number behind its first byte, up to the byte `end` behind it.
+fn number_behind<I: Source>(
+    reader: &mut Reader,
+    src: &mut I,
+    first: u8,
+    limit: u32,
+    end: u8,
+) -> Result<u32, PlainFault>
+    requires { end < 45 }
+    ensures number { IfOk result (λ n. ahead (first ∷ []) (ahead reader.old (I.left src.old))
+        ≡ ahead (decimal n ++ end ∷ []) (ahead reader.new (I.left src.new))) }
+    ensures fits { IfOk result (λ n. n < limit) }
+    ensures not_plain { IsErrOf result PlainFault.NotPlain
+        → ForSome (ahead reader.old (I.left src.old)) (λ bytes. NoNumberBegins limit end (first ∷ bytes)) }
+    ensures input { IsErrOf result PlainFault.InputFault → Rose (I.faults src.old) (I.faults src.new) }
+    ensures later { I.faults src.old ≤ I.faults src.new }
+{
+    let Some(mut n) = first_number(first, limit) else {
+        return Err(PlainFault::NotPlain);
+    };
+    'digits: loop {
+        let Some(byte) = reader.next(src)? else {
+            return Err(PlainFault::NotPlain);
+        };
+        if byte == end {
+            return Ok(n);
+        }
+        let Some(longer) = longer_number(n, byte, limit) else {
+            return Err(PlainFault::NotPlain);
+        };
+        n = longer;
+    }
+}
+
+/// Takes a number below the limit, and the byte `end` behind it.
+pub fn read_number<I: Source>(
+    reader: &mut Reader,
+    src: &mut I,
+    limit: u32,
+    end: u8,
+) -> Result<u32, PlainFault>
+    requires { end < 45 }
+    ensures number { IfOk result (λ n. ahead reader.old (I.left src.old)
+        ≡ ahead (decimal n ++ end ∷ []) (ahead reader.new (I.left src.new))) }
+    ensures fits { IfOk result (λ n. n < limit) }
+    ensures not_plain { IsErrOf result PlainFault.NotPlain
+        → ForSome (ahead reader.old (I.left src.old)) (NoNumberBegins limit end) }
+    ensures input { IsErrOf result PlainFault.InputFault → Rose (I.faults src.old) (I.faults src.new) }
+    ensures later { I.faults src.old ≤ I.faults src.new }
+{
+    let Some(first) = reader.next(src)? else {
+        return Err(PlainFault::NotPlain);
+    };
+    number_behind(reader, src, first, limit, end)
+}

@@ -5,11 +5,12 @@ ghost use Rattle.tpz_io.specs.Causes.{Rose};
 ghost use Rattle.tpz_base.specs.Cubes.{Row};
 ghost use Rattle.tpz_base.specs.Meshes.{is_whole};
 ghost use Rattle.tpz_base.specs.Texts.{Face};
+ghost use Rattle.ply_body.specs.declared.plain.PlainFault.TheVariants.{InputFault, Memory};
 ghost use Rattle.ply_body.specs.Plain.{IsNearTri, IsPlain, IsReadOf, StartsPlain};
 
-use std::alloc::Global;
+use std::alloc::{AllocError, AllocFailed, Global};
 use tpz_base::Tri;
-use tpz_io::{Reader, Source};
+use tpz_io::{Failed, Reader, Source};
 
 /// What is read of a plain input, in whole scaled units.
 #[derive(Drop)]
@@ -31,6 +32,30 @@ pub enum PlainFault {
     InputFault,
     /// Memory ran out.
     Memory,
+}
+
+impl From<Failed> for PlainFault {
+    ghost from_gives = { λ _ e. e ≡ InputFault };
+
+    fn from(_: Failed) -> Self {
+        PlainFault::InputFault
+    }
+}
+
+impl From<AllocError> for PlainFault {
+    ghost from_gives = { λ _ e. e ≡ Memory };
+
+    fn from(_: AllocError) -> Self {
+        PlainFault::Memory
+    }
+}
+
+impl<T: Drop> From<AllocFailed<T>> for PlainFault {
+    ghost from_gives = { λ _ e. e ≡ Memory };
+
+    fn from(_: AllocFailed<T>) -> Self {
+        PlainFault::Memory
+    }
 }
 
 /// Reads the mesh with whose text the source begins. What follows its last line isn't looked at, but some of it may
