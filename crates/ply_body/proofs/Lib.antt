@@ -1,2 +1,4 @@
+pub mod Coordinates
 pub mod Digits
+pub mod Splits
 pub mod Told

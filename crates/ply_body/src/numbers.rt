@@ -3,7 +3,8 @@ ghost use Rattle.std.specs.Prelude.{◌≡◌, ◌≢◌, ◌^◌, ◌<◌, ◌�
 ghost use Rattle.std.specs.Option.{ForSome};
 ghost use Rattle.tpz_io.specs.Causes.{HasCause, Rose};
 ghost use Rattle.tpz_io.specs.Told.{ahead};
-ghost use Rattle.ply_body.specs.Numbers.{NoNumberBegins, IsNoFront};
+ghost use Rattle.std.specs.Fmt.{signed_decimal};
+ghost use Rattle.ply_body.specs.Numbers.{IsCoordinate, IsNoFront, NoneBegins, NoNumberBegins};
 
 use crate::plain::PlainFault;
 use tpz_io::{Failed, Reader, Source};
@@ -99,4 +100,56 @@ pub fn read_number<I: Source>(
         return Err(PlainFault::NotPlain);
     };
     number_behind(reader, src, first, limit, end)
+}
+
+// One above the greatest coordinate.
+const LIMIT: u32 = 2147483648;
+
+/// Takes a coordinate, and the byte `end` behind it.
+#[tactic(auto, using(crate::proofs::Coordinates::no_coordinate))]
+pub fn read_coordinate<I: Source>(
+    reader: &mut Reader,
+    src: &mut I,
+    end: u8,
+) -> Result<i32, PlainFault>
+    requires { end < 45 }
+    ensures coordinate { IfOk result (λ z. ahead reader.old (I.left src.old)
+        ≡ ahead (signed_decimal z ++ end ∷ []) (ahead reader.new (I.left src.new))) }
+    ensures fits { IfOk result IsCoordinate }
+    ensures not_plain { IsErrOf result PlainFault.NotPlain
+        → ForSome (ahead reader.old (I.left src.old)) (NoneBegins IsCoordinate signed_decimal end) }
+    ensures input { IsErrOf result PlainFault.InputFault → Rose (I.faults src.old) (I.faults src.new) }
+    ensures later { I.faults src.old ≤ I.faults src.new }
+{
+    let Some(first) = reader.next(src)? else {
+        return Err(PlainFault::NotPlain);
+    };
+    if first == b'-' {
+        return read_negative(reader, src, end);
+    }
+    let n = number_behind(reader, src, first, LIMIT, end)?;
+    Ok(n as i32)
+}
+
+// Goes on with a coordinate behind its minus.
+#[tactic(auto, using(crate::proofs::Coordinates::no_negative, crate::proofs::Coordinates::no_negative_zero))]
+fn read_negative<I: Source>(
+    reader: &mut Reader,
+    src: &mut I,
+    end: u8,
+) -> Result<i32, PlainFault>
+    requires { end < 45 }
+    ensures coordinate { IfOk result (λ z. ahead (45 ∷ []) (ahead reader.old (I.left src.old))
+        ≡ ahead (signed_decimal z ++ end ∷ []) (ahead reader.new (I.left src.new))) }
+    ensures fits { IfOk result IsCoordinate }
+    ensures not_plain { IsErrOf result PlainFault.NotPlain
+        → ForSome (ahead reader.old (I.left src.old)) (λ bytes. NoneBegins IsCoordinate signed_decimal end (45 ∷ bytes)) }
+    ensures input { IsErrOf result PlainFault.InputFault → Rose (I.faults src.old) (I.faults src.new) }
+    ensures later { I.faults src.old ≤ I.faults src.new }
+{
+    let n = read_number(reader, src, LIMIT, end)?;
+    if n == 0 {
+        return Err(PlainFault::NotPlain);
+    }
+    Ok(-(n as i32))
 }
