@@ -1,5 +1,5 @@
 -- What is said of told bytes, by what is said of those behind a front of them.
-use Rattle.std.proofs.Common.{◌≡◌, ℕ, List, [], ◌∷◌, ◌++◌, refl, sym, ◌∙◌, ap, subst}
+use Rattle.std.proofs.Common.{◌≡◌, ℕ, [], ◌∷◌, ◌++◌, refl, sym, ◌∙◌, ap, subst, append_assoc}
 use Rattle.std.proofs.lemmas.List.{append-nil}
 use Rattle.std.specs.Option.{ForSome}
 use Rattle.std.specs.declared.option.Option.{Option}
@@ -43,3 +43,9 @@ ended_at P old (Some rest) front seen taken end none bytes told =
     let nothing : rest ≡ [] = end rest refl in
     let same : seen ++ rest ≡ front ++ bytes = cc in
     subst P (sym (append-nil seen) ∙ ap (λ (l : Bytes). seen ++ l) (sym nothing) ∙ same) none
+
+-- one front behind another
+pub chained : (old mid new : Option Bytes) (front back : Bytes) → old ≡ ahead front mid → mid ≡ ahead back new → old ≡ ahead (front ++ back) new
+chained old mid None front back first second = first ∙ ap (ahead front) second
+chained old mid (Some rest) front back first second =
+    first ∙ ap (ahead front) second ∙ ap Some (sym (append_assoc front back rest))
