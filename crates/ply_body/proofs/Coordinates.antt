@@ -2,6 +2,8 @@
 use Rattle.std.proofs.Common.{◌≡◌, ℕ, ◌<◌, ◌^◌, List, [], ◌∷◌, ◌++◌, sym, ap, arith, suc, inl}
 use Rattle.std.specs.Prelude.{ℤ, pos, negsuc, decimal}
 use Rattle.std.specs.Fmt.{signed_decimal}
+use Rattle.std.proofs.Common.{to_z, of_z, w32}
+use Rattle.std.proofs.lemmas.Int.{to_z-of_z}
 use Rattle.ply_body.specs.Numbers.{NoneBegins, NoNumberBegins, IsCoordinate}
 use Rattle.ply_body.proofs.Digits.{not_first}
 use Rattle.ply_body.proofs.Splits.{split_once, AllAbove-decimal, same_number}
@@ -26,3 +28,8 @@ module _ (end : ℕ) (low : end < 45) (bytes : List ℕ) where
       → NoneBegins IsCoordinate signed_decimal end (first ∷ bytes)
   no_coordinate first other none (pos n) rest fits same = none n rest (omega arith) same
   no_coordinate first other none (negsuc n) rest fits same = other (cc)
+
+-- a coordinate is as it was behind its bits
+pub back : (z : ℤ) → IsCoordinate z → to_z w32 (of_z w32 z) ≡ z
+back (pos n) fits = to_z-of_z w32 (pos n) (record { sfits = omega arith })
+back (negsuc n) fits = to_z-of_z w32 (negsuc n) (record { sfits = omega arith })
