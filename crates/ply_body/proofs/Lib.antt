@@ -1,4 +1,5 @@
 pub mod Coordinates
+pub mod CubeRows
 pub mod Digits
 pub mod Heads
 pub mod LineLists

@@ -1,3 +1,4 @@
+pub mod Hulls
 pub mod Lines
 pub mod Numbers
 pub mod Places
