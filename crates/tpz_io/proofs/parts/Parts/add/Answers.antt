@@ -8,9 +8,9 @@ pub invariant_of-self : goal.invariant_of-self
 invariant_of-self c =
     let before = c.self.invariant in
     let finished : sum_by length c.args.self.now.finished ≡ c.self.inside.start =
-        ap (λ (v : PartsValue). sum_by length v.finished) (sym c.self.view_is) ∙ before.size in
+    ap (λ (v : PartsValue). sum_by length v.finished) (sym c.self.view_is) ∙ before.size in
     let unfinished : length c.args.self.now.unfinished ≡ length c.self.inside.bytes.items - c.self.inside.start =
-        ap (λ (v : PartsValue). length v.unfinished) (sym c.self.view_is) ∙ length-drop c.self.inside.start c.self.inside.bytes.items in
+    ap (λ (v : PartsValue). length v.unfinished) (sym c.self.view_is) ∙ length-drop c.self.inside.start c.self.inside.bytes.items in
     let room : c.args.self.now.room ≡ c.self.inside.room = ap (λ (v : PartsValue). v.room) (sym c.self.view_is) in
     record {
       spans = before.spans;
@@ -22,5 +22,5 @@ invariant_of-self c =
       places = before.places;
       place_room = before.place_room;
       room_fits = before.room_fits;
-      places_fit = before.places_fit
+      places_fit = before.places_fit;
     }

@@ -18,5 +18,5 @@ invariant_of-self c =
       places = grind (arith, common_steps);
       place_room = grind (arith, common_steps);
       room_fits = before.room_fits;
-      places_fit = before.places_fit
+      places_fit = before.places_fit;
     }
