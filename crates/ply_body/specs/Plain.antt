@@ -1,9 +1,11 @@
 -- Plain inputs: those that begin with the PLY text of some rows and faces, and what is read of one.
-use Rattle.std.specs.Prelude.{◌≡◌, ℕ, ◌^◌, ◌<◌, ◌≤◌, not, List, [], ◌∷◌, ◌++◌, length, map, filter, count_by, All, slice_index_or, unsigned_abs}
+use Rattle.std.specs.Prelude.{◌≡◌, ℕ, ◌^◌, ◌<◌, ◌≤◌, true, not, List, [], ◌∷◌, ◌++◌, length, map, filter, count_by, All, slice_index_or, unsigned_abs}
+use Rattle.std.specs.List.{list_all}
 use Rattle.tpz_base.specs.declared.shape.Point.{Point}
 use Rattle.tpz_base.specs.declared.shape.Tri.{Tri}
-use Rattle.tpz_base.specs.Points.{point}
-use Rattle.tpz_base.specs.Meshes.{Mesh, triangle, is_whole}
+use Rattle.tpz_base.specs.Lists.{has}
+use Rattle.tpz_base.specs.Points.{point, point_eq}
+use Rattle.tpz_base.specs.Meshes.{Mesh, triangle, is_whole, corners_of}
 use Rattle.tpz_base.specs.Cubes.{Row, low_of, widest, less}
 use Rattle.tpz_base.specs.Texts.{Bytes, Face, ply_text}
 use Rattle.ply_body.specs.declared.plain.Plain.{Plain}
@@ -76,3 +78,7 @@ pub record IsNearTri (t : Tri) : Type 0 where
   pub a : IsNear t.a
   pub b : IsNear t.b
   pub c : IsNear t.c
+
+-- The corners of a mesh are among at most 2,147,483,648 points.
+abbrev pub HasFewCorners : Mesh → Type 0
+HasFewCorners M = (ps : List Point) × (length ps ≤ 2147483648) × (list_all (has point_eq ps) (corners_of M) ≡ true)

@@ -6,7 +6,7 @@ ghost use Rattle.tpz_base.specs.Cubes.{Row};
 ghost use Rattle.tpz_base.specs.Meshes.{is_whole};
 ghost use Rattle.tpz_base.specs.Texts.{Face};
 ghost use Rattle.ply_body.specs.declared.plain.PlainFault.TheVariants.{InputFault, Memory};
-ghost use Rattle.ply_body.specs.Plain.{IsNearTri, IsPlain, IsReadOf, StartsPlain};
+ghost use Rattle.ply_body.specs.Plain.{HasFewCorners, IsNearTri, IsPlain, IsReadOf, StartsPlain};
 
 use std::alloc::{AllocError, AllocFailed, Global};
 use tpz_base::Tri;
@@ -71,6 +71,7 @@ pub fn read_plain<I: Source>(alloc: Global, src: &mut I) -> Result<Plain, PlainF
     ensures whole { IfOk result (λ plain. All (λ t. IsTrue (is_whole t)) plain.tris.items) }
     ensures near { IfOk result (λ plain. All IsNearTri plain.tris.items) }
     ensures few { IfOk result (λ plain. vec_len plain.tris + plain.dropped ≤ 2147483648) }
+    ensures few_corners { IfOk result (λ plain. HasFewCorners plain.tris.items) }
     ensures low { IfOk result (λ plain. All (λ z. unsigned_abs z ≤ 2147483647) plain.low) }
 {
     let _ = Reader::new(alloc);

@@ -2,3 +2,4 @@ pub mod PartLines
 pub mod Pieces
 pub mod NumberLemmas
 pub mod RootLoops
+pub mod WordLists

@@ -16,7 +16,7 @@ use Rattle.tpz_base.proofs.PointLemmas.{point_eq-true, point_eq_sym, point_eq_re
 use Rattle.puzzle_cli.specs.declared.numbering.Corners.{Corners}
 use Rattle.puzzle_cli.specs.Parts.{face_of}
 use Rattle.puzzle_cli.specs.declared.numbering.Numbered.{Numbered}
-use Rattle.puzzle_cli.specs.Numbering.{corner_at, triangle_of, mesh_of, IsNumbering}
+use Rattle.puzzle_cli.specs.Numbering.{corner_at, triangle_of, numbered_mesh, IsNumbering}
 
 -- whether p is among the points
 abbrev pub is_in : List Point → Point → Bool
@@ -257,32 +257,32 @@ module _ (ks : List Point) (M : Mesh) (t : Tri) (keys : ks ≡ vertices M) (few 
       let both : length k2 ≡ length (insert_key point_eq (insert_key point_eq ks t.a) t.b) = ap length (s2 ∙ ap (λ (l : List Point). insert_key point_eq l t.b) s1) in
       omega (arith, whole_keys, few, both, insert_key-longer (insert_key point_eq (insert_key point_eq ks t.a) t.b) t.c)
 
-mesh_of-is : (n : Numbered) (M : Mesh) → HasCorners n.vertices.keys M → map face_of n.faces.items ≡ map (face_in n.vertices.keys) M → mesh_of n ≡ M
-unfolding mesh_of
-mesh_of-is n M there faces = mesh_is n.vertices.keys n.faces.items M there faces
+numbered_mesh-is : (n : Numbered) (M : Mesh) → HasCorners n.vertices.keys M → map face_of n.faces.items ≡ map (face_in n.vertices.keys) M → numbered_mesh n ≡ M
+unfolding numbered_mesh
+numbered_mesh-is n M there faces = mesh_is n.vertices.keys n.faces.items M there faces
 
 no_vertices : vertices [] ≡ []
 unfolding vertices
 no_vertices = refl
 
-pub numbering_none : (n : Numbered) → n.vertices.keys ≡ [] → n.faces.items ≡ [] → (mesh_of n ≡ []) × IsNumbering n
+pub numbering_none : (n : Numbered) → n.vertices.keys ≡ [] → n.faces.items ≡ [] → (numbered_mesh n ≡ []) × IsNumbering n
 numbering_none n keys faces =
     let none : map face_of n.faces.items ≡ [] = ap (map face_of) faces in
-    let mesh = mesh_of-is n [] refl none in
+    let mesh = numbered_mesh-is n [] refl none in
     (mesh, record { keys = keys ∙ sym (ap vertices mesh ∙ no_vertices); faces = none ∙ sym (ap (λ (N : Mesh). map (face_in (vertices N)) N) mesh) })
 
 -- a numbering has one more triangle at its end
 pub numbering_push : (n n' : Numbered) (k1 k2 : List Point) (t : Tri) (f : Corners) → IsNumbering n
     → k1 ≡ insert_key point_eq n.vertices.keys t.a → f.a ≡ number_in k1 t.a → k2 ≡ insert_key point_eq k1 t.b → f.b ≡ number_in k2 t.b
     → n'.vertices.keys ≡ insert_key point_eq k2 t.c → f.c ≡ number_in n'.vertices.keys t.c → n'.faces.items ≡ n.faces.items ++ f ∷ []
-    → (mesh_of n' ≡ mesh_of n ++ t ∷ []) × IsNumbering n'
+    → (numbered_mesh n' ≡ numbered_mesh n ++ t ∷ []) × IsNumbering n'
 numbering_push n n' k1 k2 t f is s1 a s2 b s3 c pushed =
-    let M = mesh_of n in
+    let M = numbered_mesh n in
     let faces : map face_of n.faces.items ≡ map (face_in n.vertices.keys) M = is.faces ∙ ap (λ (l : List Point). map (face_in l) M) (sym is.keys) in
     let it = triangle_push n.vertices.keys k1 k2 n'.vertices.keys n.faces.items M t f is.keys faces s1 a s2 b s3 c in
     let all : map face_of n'.faces.items ≡ map (face_in n'.vertices.keys) (M ++ t ∷ []) = ap (map face_of) pushed ∙ it.1 in
     let there : HasCorners n'.vertices.keys (M ++ t ∷ []) = subst (λ (l : List Point). HasCorners l (M ++ t ∷ [])) (sym it.0) (has_corners (M ++ t ∷ [])) in
-    let mesh = mesh_of-is n' (M ++ t ∷ []) there all in
+    let mesh = numbered_mesh-is n' (M ++ t ∷ []) there all in
     (mesh, record {
       keys = it.0 ∙ ap vertices (sym mesh);
       faces = all ∙ ap₂ (λ (l : List Point) (N : Mesh). map (face_in l) N) (it.0 ∙ ap vertices (sym mesh)) (sym mesh);

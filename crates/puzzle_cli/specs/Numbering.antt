@@ -17,13 +17,13 @@ abbrev pub triangle_of : List Point → Corners → Tri
 triangle_of ks f = triangle (corner_at ks f.a) (corner_at ks f.b) (corner_at ks f.c)
 
 -- the mesh that vertices and numbers of corners stand for
-unfoldable pub mesh_of : Numbered → Mesh
-mesh_of n = map (triangle_of n.vertices.keys) n.faces.items
+unfoldable pub numbered_mesh : Numbered → Mesh
+numbered_mesh n = map (triangle_of n.vertices.keys) n.faces.items
 
 -- its vertices are numbered in the order of first use
 pub record IsNumbering (n : Numbered) : Type 0 where
-  pub keys : n.vertices.keys ≡ vertices (mesh_of n)
-  pub faces : map face_of n.faces.items ≡ map (face_in (vertices (mesh_of n))) (mesh_of n)
+  pub keys : n.vertices.keys ≡ vertices (numbered_mesh n)
+  pub faces : map face_of n.faces.items ≡ map (face_in (vertices (numbered_mesh n))) (numbered_mesh n)
 
 -- a mesh has at most so many vertices
 abbrev pub FewVertices : Mesh → Type 0

@@ -4,7 +4,7 @@ ghost use Rattle.indexmap.specs.IndexSet.{insert_key};
 ghost use Rattle.tpz_base.specs.Points.{point_eq};
 ghost use Rattle.tpz_base.specs.Roots.{root_part, roots_parts};
 ghost use Rattle.tpz_base.specs.Texts.{number_in};
-ghost use Rattle.puzzle_cli.specs.Numbering.{mesh_of, IsNumbering, FewVertices};
+ghost use Rattle.puzzle_cli.specs.Numbering.{numbered_mesh, IsNumbering, FewVertices};
 
 use crate::root_order::root_place;
 use indexmap::IndexSet;
@@ -39,7 +39,7 @@ fn number(vertices: &mut IndexSet<Point>, p: Point) -> Result<u32, AllocError>
 impl Numbered {
     /// No vertex and no triangle.
     pub fn new(alloc: Global) -> Self
-        ensures mesh { mesh_of result ≡ [] }
+        ensures mesh { numbered_mesh result ≡ [] }
         ensures numbering { IsNumbering result }
     {
         Numbered {
@@ -51,8 +51,8 @@ impl Numbered {
     // Adds a triangle at the end of the mesh.
     fn add(&mut self, t: &Tri) -> Result<(), AllocError>
         requires numbering { IsNumbering self.old }
-        requires few { FewVertices (mesh_of self.old ++ t.now ∷ []) }
-        ensures mesh { OnOk result (mesh_of self.new ≡ mesh_of self.old ++ t.now ∷ []) }
+        requires few { FewVertices (numbered_mesh self.old ++ t.now ∷ []) }
+        ensures mesh { OnOk result (numbered_mesh self.new ≡ numbered_mesh self.old ++ t.now ∷ []) }
         ensures numbering { OnOk result (IsNumbering self.new) }
     {
         let a = number(&mut self.vertices, t.a)?;
@@ -66,8 +66,8 @@ impl Numbered {
     #[tactic(auto, using(crate::proofs::RootLoops::in_root, crate::proofs::RootLoops::not_in_root))]
     fn add_in_root(&mut self, t: &Tri, place: u8) -> Result<(), AllocError>
         requires numbering { IsNumbering self.old }
-        requires few { FewVertices (mesh_of self.old ++ root_part (t.now ∷ []) place) }
-        ensures mesh { OnOk result (mesh_of self.new ≡ mesh_of self.old ++ root_part (t.now ∷ []) place) }
+        requires few { FewVertices (numbered_mesh self.old ++ root_part (t.now ∷ []) place) }
+        ensures mesh { OnOk result (numbered_mesh self.new ≡ numbered_mesh self.old ++ root_part (t.now ∷ []) place) }
         ensures numbering { OnOk result (IsNumbering self.new) }
     {
         if root_place(t) != place {
@@ -79,8 +79,8 @@ impl Numbered {
     // Adds the triangles of a root, in order, at the end of the mesh.
     fn add_root(&mut self, tris: &[Tri], place: u8) -> Result<(), AllocError>
         requires numbering { IsNumbering self.old }
-        requires few { FewVertices (mesh_of self.old ++ root_part tris.now place) }
-        ensures mesh { OnOk result (mesh_of self.new ≡ mesh_of self.old ++ root_part tris.now place) }
+        requires few { FewVertices (numbered_mesh self.old ++ root_part tris.now place) }
+        ensures mesh { OnOk result (numbered_mesh self.new ≡ numbered_mesh self.old ++ root_part tris.now place) }
         ensures numbering { OnOk result (IsNumbering self.new) }
     {
         'tris: for t in tris {
@@ -93,7 +93,7 @@ impl Numbered {
 /// The triangles of each root in turn, with their vertices numbered in the order of first use.
 pub fn number_by_roots(alloc: Global, tris: &[Tri]) -> Result<Numbered, AllocError>
     requires { FewVertices (roots_parts tris.now 6) }
-    ensures mesh { IfOk result (λ numbered. mesh_of numbered ≡ roots_parts tris.now 6) }
+    ensures mesh { IfOk result (λ numbered. numbered_mesh numbered ≡ roots_parts tris.now 6) }
     ensures numbering { IfOk result IsNumbering }
 {
     let mut numbered = Numbered::new(alloc);
