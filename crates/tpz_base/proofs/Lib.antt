@@ -3,5 +3,7 @@ pub mod NearLemmas
 pub mod SumLemmas
 pub mod BorderLaw
 pub mod SimplifyLaw
+pub mod OrderLemmas
+pub mod MovesLaw
 mod ProductSums
 mod WorkedCollapses
