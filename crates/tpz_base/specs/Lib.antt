@@ -1,8 +1,11 @@
 pub mod Lists
 pub mod Points
 pub mod Meshes
+pub mod Collapses
 pub mod Cubes
 pub mod Tetrahedra
 pub mod Cuts
 pub mod Roots
 pub mod Texts
+pub mod Reach
+pub mod Boxes
