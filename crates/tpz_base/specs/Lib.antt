@@ -6,3 +6,4 @@ pub mod Tetrahedra
 pub mod Cuts
 pub mod Roots
 pub mod Texts
+pub mod Diamonds

@@ -1,5 +1,5 @@
--- Points: their order, sums and midpoints.
-use Rattle.std.specs.Prelude.{ℕ, ◌+◌, ◌/◌, Bool, ◌&&◌, ◌||◌, nat_lt, ◌==◌}
+-- Points: their order, sums, midpoints and multiples.
+use Rattle.std.specs.Prelude.{ℕ, ◌+◌, ◌*◌, ◌/◌, Bool, ◌&&◌, ◌||◌, nat_lt, ◌==◌}
 use Rattle.tpz_base.specs.declared.shape.Point.{Point}
 
 abbrev pub point : ℕ → ℕ → ℕ → Point
@@ -17,3 +17,6 @@ point_add p q = point (p.x + q.x) (p.y + q.y) (p.z + q.z)
 
 abbrev pub midpoint : Point → Point → Point
 midpoint p q = point ((p.x + q.x) / 2) ((p.y + q.y) / 2) ((p.z + q.z) / 2)
+
+abbrev pub point_scale : ℕ → Point → Point
+point_scale k p = point (k * p.x) (k * p.y) (k * p.z)
