@@ -27,7 +27,7 @@ opposite-first zxy false = refl
 opposite-first zyx true = refl
 opposite-first zyx false = refl
 
-opposite-second : (w : Order) (b : Bool) → opposite (second w b) ≡ second w (not b)
+pub opposite-second : (w : Order) (b : Bool) → opposite (second w b) ≡ second w (not b)
 unfolding opposite
 opposite-second xyz true = refl
 opposite-second xyz false = refl
@@ -42,7 +42,7 @@ opposite-second zxy false = refl
 opposite-second zyx true = refl
 opposite-second zyx false = refl
 
-opposite-third : (w : Order) (b : Bool) → opposite (third w b) ≡ third w (not b)
+pub opposite-third : (w : Order) (b : Bool) → opposite (third w b) ≡ third w (not b)
 unfolding opposite
 opposite-third xyz true = refl
 opposite-third xyz false = refl
@@ -214,11 +214,11 @@ rest-second_third zyx false false true p q r e = rw e refl
 rest-second_third zyx false false false p q r e = rw e refl
 
 -- half a step
-shift_start_half : (d : Bool) (m : ℕ) → m % 4 ≡ way d → shifted d 1 (start m) ≡ m
+pub shift_start_half : (d : Bool) (m : ℕ) → m % 4 ≡ way d → shifted d 1 (start m) ≡ m
 shift_start_half true m e = rw (start_up m e) (omega (arith, e))
 shift_start_half false m e = rw (start_down m e) (omega arith)
 
-shift_finish_half : (d : Bool) (m : ℕ) → m % 4 ≡ way d → shifted (not d) 1 (finish m) ≡ m
+pub shift_finish_half : (d : Bool) (m : ℕ) → m % 4 ≡ way d → shifted (not d) 1 (finish m) ≡ m
 shift_finish_half true m e = rw (finish_up m e) (omega arith)
 shift_finish_half false m e = rw (finish_down m e) (omega (arith, e))
 
@@ -230,25 +230,25 @@ pub shift_to_finish : (d : Bool) (m : ℕ) → m % 4 ≡ way d → shifted d 1 m
 shift_to_finish true m e = sym (finish_up m e)
 shift_to_finish false m e = sym (finish_down m e)
 
-start_even : (d : Bool) (m : ℕ) → m % 4 ≡ way d → start m % 2 ≡ 0
+pub start_even : (d : Bool) (m : ℕ) → m % 4 ≡ way d → start m % 2 ≡ 0
 start_even true m e = rw (start_up m e) (omega (arith, e))
 start_even false m e = rw (start_down m e) (omega (arith, e))
 
-finish_even : (d : Bool) (m : ℕ) → m % 4 ≡ way d → finish m % 2 ≡ 0
+pub finish_even : (d : Bool) (m : ℕ) → m % 4 ≡ way d → finish m % 2 ≡ 0
 finish_even true m e = rw (finish_up m e) (omega (arith, e))
 finish_even false m e = rw (finish_down m e) (omega (arith, e))
 
-start_allows : (N : ℕ) (d : Bool) (m : ℕ) → m ≤ N → m % 4 ≡ way d → allows N d (start m) ≡ true
+pub start_allows : (N : ℕ) (d : Bool) (m : ℕ) → m ≤ N → m % 4 ≡ way d → allows N d (start m) ≡ true
 unfolding allows
 start_allows N true m h e = let s = start_up m e in let even = start_even true m e in rw even (lt-ltb (start m) N (omega (arith, s, h, e)))
 start_allows N false m h e = let s = start_down m e in let even = start_even false m e in rw even (lt-ltb 0 (start m) (omega (arith, s)))
 
-finish_allows : (N : ℕ) (d : Bool) (m : ℕ) → m ≤ N → m % 4 ≡ way d → allows N (not d) (finish m) ≡ true
+pub finish_allows : (N : ℕ) (d : Bool) (m : ℕ) → m ≤ N → m % 4 ≡ way d → allows N (not d) (finish m) ≡ true
 unfolding allows
 finish_allows N true m h e = let s = finish_up m e in let even = finish_even true m e in rw even (lt-ltb 0 (finish m) (omega (arith, s)))
 finish_allows N false m h e = let s = finish_down m e in let even = finish_even false m e in rw even (lt-ltb (finish m) N (omega (arith, s, h, e)))
 
-odd_one : (b : Bool) (m : ℕ) → m % 4 ≡ way b → m % 2 ≡ 1
+pub odd_one : (b : Bool) (m : ℕ) → m % 4 ≡ way b → m % 2 ≡ 1
 odd_one true m e = omega (arith, e)
 odd_one false m e = omega (arith, e)
 
@@ -266,7 +266,7 @@ pub record Child (h N o : ℕ) (S : Tetrahedron) (u : Point) (q : ℕ × ℕ) : 
   pub valid : is_member N u q ≡ true
   pub is : S.corners ≡ Corners h u q
 
-along_cong : (w : Order) (p q r p' q' r' : ℕ) → p ≡ p' → q ≡ q' → r ≡ r' → along w p q r ≡ along w p' q' r'
+pub along_cong : (w : Order) (p q r p' q' r' : ℕ) → p ≡ p' → q ≡ q' → r ≡ r' → along w p q r ≡ along w p' q' r'
 along_cong w p q r p' q' r' e f g = cc
 
 along-turned : (w : Order) (p q r : ℕ) → along (turned w) p q r ≡ along w r p q
@@ -285,7 +285,7 @@ along-swapped yzx p q r = refl
 along-swapped zxy p q r = refl
 along-swapped zyx p q r = refl
 
-turned-first : (w : Order) (b : Bool) → first (turned w) b ≡ second w b
+pub turned-first : (w : Order) (b : Bool) → first (turned w) b ≡ second w b
 turned-first xyz true = refl
 turned-first xyz false = refl
 turned-first xzy true = refl
@@ -299,7 +299,7 @@ turned-first zxy false = refl
 turned-first zyx true = refl
 turned-first zyx false = refl
 
-turned-third : (w : Order) (b : Bool) → third (turned w) b ≡ first w b
+pub turned-third : (w : Order) (b : Bool) → third (turned w) b ≡ first w b
 turned-third xyz true = refl
 turned-third xyz false = refl
 turned-third xzy true = refl
@@ -313,7 +313,7 @@ turned-third zxy false = refl
 turned-third zyx true = refl
 turned-third zyx false = refl
 
-turned-second : (w : Order) (b : Bool) → second (turned w) b ≡ third w b
+pub turned-second : (w : Order) (b : Bool) → second (turned w) b ≡ third w b
 turned-second xyz true = refl
 turned-second xyz false = refl
 turned-second xzy true = refl

@@ -11,26 +11,26 @@ use Rattle.tetra_name.proofs.Directions.{first, second, third, shifted, moved-fi
 use Rattle.tetra_name.proofs.Closed.{way, ways, start_up, start_down, finish_up, finish_down, scale-along, long_allows, InBox, box-along, cube_is, face_is, edge_is, cube_kind, face_kind, edge_kind, member_parts, Corners}
 use Rattle.tetra_name.proofs.ChildLaw.{Child, rest-second_third, opposite-first, may_back, cube_child_at_0, cube_child_at_1, face_child_at_0, face_child_at_1, edge_child_at_0, edge_child_at_1}
 
-both : {X Y : Type 0} (F : X → Y → Type 0) (x x' : X) (y y' : Y) → x ≡ x' → y ≡ y' → F x y → F x' y'
+pub both : {X Y : Type 0} (F : X → Y → Type 0) (x x' : X) (y y' : Y) → x ≡ x' → y ≡ y' → F x y → F x' y'
 both F x x' y y' e f h = subst (λ a. F a y') e (subst (λ b. F x b) f h)
 
 -- a pair with its order of axes, signs and coordinates
-record CubeParts (N : ℕ) (u : Point) (q : ℕ × ℕ) : Type 0 where
-  w : Order
-  b : Bool
-  c : Bool
-  d : Bool
-  x : ℕ
-  y : ℕ
-  z : ℕ
-  u_is : u ≡ along w x y z
-  q_is : q ≡ (first w b, second w c)
-  inside : (x ≤ N) × (y ≤ N) × (z ≤ N)
-  x_way : x % 4 ≡ way b
-  y_way : y % 4 ≡ way c
-  z_way : z % 4 ≡ way d
+pub record CubeParts (N : ℕ) (u : Point) (q : ℕ × ℕ) : Type 0 where
+  pub w : Order
+  pub b : Bool
+  pub c : Bool
+  pub d : Bool
+  pub x : ℕ
+  pub y : ℕ
+  pub z : ℕ
+  pub u_is : u ≡ along w x y z
+  pub q_is : q ≡ (first w b, second w c)
+  pub inside : (x ≤ N) × (y ≤ N) × (z ≤ N)
+  pub x_way : x % 4 ≡ way b
+  pub y_way : y % 4 ≡ way c
+  pub z_way : z % 4 ≡ way d
 
-cube_parts : (N : ℕ) (u : Point) (q : ℕ × ℕ) → InBox N u → long_axes u ≡ 3 → Member pairs q → is_member N u q ≡ true → CubeParts N u q
+pub cube_parts : (N : ℕ) (u : Point) (q : ℕ × ℕ) → InBox N u → long_axes u ≡ 3 → Member pairs q → is_member N u q ≡ true → CubeParts N u q
 cube_parts N u q box o m valid =
     let d = all_at FirstSecond pairs all-first_second q m in
     let k = by_order d.w u in
@@ -55,23 +55,23 @@ cube_parts N u q box o m valid =
       z_way = t.1;
     }
 
-record FaceParts (N : ℕ) (u : Point) (q : ℕ × ℕ) : Type 0 where
-  w : Order
-  b : Bool
-  c : Bool
-  s : Bool
-  x : ℕ
-  y : ℕ
-  z : ℕ
-  u_is : u ≡ along w x y z
-  q_is : q ≡ (first w b, third w s)
-  inside : (x ≤ N) × (y ≤ N) × (z ≤ N)
-  x_way : x % 4 ≡ way b
-  y_way : y % 4 ≡ way c
-  even : z % 2 ≡ 0
-  may : allows N s z ≡ true
+pub record FaceParts (N : ℕ) (u : Point) (q : ℕ × ℕ) : Type 0 where
+  pub w : Order
+  pub b : Bool
+  pub c : Bool
+  pub s : Bool
+  pub x : ℕ
+  pub y : ℕ
+  pub z : ℕ
+  pub u_is : u ≡ along w x y z
+  pub q_is : q ≡ (first w b, third w s)
+  pub inside : (x ≤ N) × (y ≤ N) × (z ≤ N)
+  pub x_way : x % 4 ≡ way b
+  pub y_way : y % 4 ≡ way c
+  pub even : z % 2 ≡ 0
+  pub may : allows N s z ≡ true
 
-face_parts : (N : ℕ) (u : Point) (q : ℕ × ℕ) → InBox N u → long_axes u ≡ 2 → Member pairs q → is_member N u q ≡ true → FaceParts N u q
+pub face_parts : (N : ℕ) (u : Point) (q : ℕ × ℕ) → InBox N u → long_axes u ≡ 2 → Member pairs q → is_member N u q ≡ true → FaceParts N u q
 face_parts N u q box o m valid =
     let d = all_at FirstThird pairs all-first_third q m in
     let k = by_order d.w u in
@@ -99,24 +99,24 @@ face_parts N u q box o m valid =
       may = a.may';
     }
 
-record EdgeParts (N : ℕ) (u : Point) (q : ℕ × ℕ) : Type 0 where
-  w : Order
-  b : Bool
-  s : Bool
-  t : Bool
-  x : ℕ
-  y : ℕ
-  z : ℕ
-  u_is : u ≡ along w x y z
-  q_is : q ≡ (second w s, third w t)
-  inside : (x ≤ N) × (y ≤ N) × (z ≤ N)
-  x_way : x % 4 ≡ way b
-  y_even : y % 2 ≡ 0
-  z_even : z % 2 ≡ 0
-  may : allows N s y ≡ true
-  may' : allows N t z ≡ true
+pub record EdgeParts (N : ℕ) (u : Point) (q : ℕ × ℕ) : Type 0 where
+  pub w : Order
+  pub b : Bool
+  pub s : Bool
+  pub t : Bool
+  pub x : ℕ
+  pub y : ℕ
+  pub z : ℕ
+  pub u_is : u ≡ along w x y z
+  pub q_is : q ≡ (second w s, third w t)
+  pub inside : (x ≤ N) × (y ≤ N) × (z ≤ N)
+  pub x_way : x % 4 ≡ way b
+  pub y_even : y % 2 ≡ 0
+  pub z_even : z % 2 ≡ 0
+  pub may : allows N s y ≡ true
+  pub may' : allows N t z ≡ true
 
-edge_parts : (N : ℕ) (u : Point) (q : ℕ × ℕ) → InBox N u → long_axes u ≡ 1 → Member pairs q → is_member N u q ≡ true → EdgeParts N u q
+pub edge_parts : (N : ℕ) (u : Point) (q : ℕ × ℕ) → InBox N u → long_axes u ≡ 1 → Member pairs q → is_member N u q ≡ true → EdgeParts N u q
 edge_parts N u q box o m valid =
     let d = all_at SecondThird pairs all-second_third q m in
     let k = by_order d.w u in
@@ -147,43 +147,43 @@ edge_parts N u q box o m valid =
 
 -- the words of the code at each kind
 module _ (u : Point) (q : ℕ × ℕ) where
-  pair_3_0 : long_axes u ≡ 3 → child_pair 0 u q ≡ (q.0, rest_of u q)
+  pub pair_3_0 : long_axes u ≡ 3 → child_pair 0 u q ≡ (q.0, rest_of u q)
   unfolding child_pair
   pair_3_0 e = rw e refl
 
-  pair_3_1 : long_axes u ≡ 3 → child_pair 1 u q ≡ (q.1, opposite q.0)
+  pub pair_3_1 : long_axes u ≡ 3 → child_pair 1 u q ≡ (q.1, opposite q.0)
   unfolding child_pair
   pair_3_1 e = rw e refl
 
-  pair_2_0 : long_axes u ≡ 2 → child_pair 0 u q ≡ (rest_of u q, q.1)
+  pub pair_2_0 : long_axes u ≡ 2 → child_pair 0 u q ≡ (rest_of u q, q.1)
   unfolding child_pair
   pair_2_0 e = rw e refl
 
-  pair_2_1 : long_axes u ≡ 2 → child_pair 1 u q ≡ (opposite q.0, q.1)
+  pub pair_2_1 : long_axes u ≡ 2 → child_pair 1 u q ≡ (opposite q.0, q.1)
   unfolding child_pair
   pair_2_1 e = rw e refl
 
-  pair_1_0 : long_axes u ≡ 1 → child_pair 0 u q ≡ (rest_of u q, q.0)
+  pub pair_1_0 : long_axes u ≡ 1 → child_pair 0 u q ≡ (rest_of u q, q.0)
   unfolding child_pair
   pair_1_0 e = rw e refl
 
-  pair_1_1 : long_axes u ≡ 1 → child_pair 1 u q ≡ (opposite (rest_of u q), q.0)
+  pub pair_1_1 : long_axes u ≡ 1 → child_pair 1 u q ≡ (opposite (rest_of u q), q.0)
   unfolding child_pair
   pair_1_1 e = rw e refl
 
-  point_more_0 : (o : ℕ) → long_axes u ≡ suc (suc o) → child_point 0 u q ≡ moved 1 (opposite (rest_of u q)) u
+  pub point_more_0 : (o : ℕ) → long_axes u ≡ suc (suc o) → child_point 0 u q ≡ moved 1 (opposite (rest_of u q)) u
   unfolding child_point
   point_more_0 o e = rw e refl
 
-  point_more_1 : (o : ℕ) → long_axes u ≡ suc (suc o) → child_point 1 u q ≡ moved 1 q.0 u
+  pub point_more_1 : (o : ℕ) → long_axes u ≡ suc (suc o) → child_point 1 u q ≡ moved 1 q.0 u
   unfolding child_point
   point_more_1 o e = rw e refl
 
-  point_1_0 : long_axes u ≡ 1 → child_point 0 u q ≡ moved 1 (opposite (rest_of u q)) (moved 1 q.0 (moved 1 q.1 (point_scale 2 u)))
+  pub point_1_0 : long_axes u ≡ 1 → child_point 0 u q ≡ moved 1 (opposite (rest_of u q)) (moved 1 q.0 (moved 1 q.1 (point_scale 2 u)))
   unfolding child_point
   point_1_0 e = rw e refl
 
-  point_1_1 : long_axes u ≡ 1 → child_point 1 u q ≡ moved 1 (rest_of u q) (moved 1 q.0 (moved 1 q.1 (point_scale 2 u)))
+  pub point_1_1 : long_axes u ≡ 1 → child_point 1 u q ≡ moved 1 (rest_of u q) (moved 1 q.0 (moved 1 q.1 (point_scale 2 u)))
   unfolding child_point
   point_1_1 e = rw e refl
 
@@ -223,7 +223,7 @@ along_cong : (w : Order) (p q r p' q' r' : ℕ) → p ≡ p' → q ≡ q' → r 
 along_cong w p q r p' q' r' e f g = cc
 
 -- three steps from the doubled point
-three_steps : (w : Order) (d s t : Bool) (x y z : ℕ) → moved 1 (first w d) (moved 1 (second w s) (moved 1 (third w t) (point_scale 2 (along w x y z)))) ≡ along w (shifted d 1 (2 * x)) (shifted s 1 (2 * y)) (shifted t 1 (2 * z))
+pub three_steps : (w : Order) (d s t : Bool) (x y z : ℕ) → moved 1 (first w d) (moved 1 (second w s) (moved 1 (third w t) (point_scale 2 (along w x y z)))) ≡ along w (shifted d 1 (2 * x)) (shifted s 1 (2 * y)) (shifted t 1 (2 * z))
 three_steps w d s t x y z =
     ap (λ P. moved 1 (first w d) (moved 1 (second w s) (moved 1 (third w t) P))) (scale-along 2 w x y z)
     ∙ ap (λ P. moved 1 (first w d) (moved 1 (second w s) P)) (moved-third 1 w t (2 * x) (2 * y) (2 * z))

@@ -136,3 +136,32 @@ child_point which u q = of_kind which (long_axes u) where
   of_kind zero _ = moved 1 (opposite (rest_of u q)) (moved 1 q.0 (moved 1 q.1 (point_scale 2 u)))
   of_kind (suc w) (suc (suc o)) = moved 1 q.0 u
   of_kind (suc w) _ = moved 1 (rest_of u q) (moved 1 q.0 (moved 1 q.1 (point_scale 2 u)))
+
+-- which child of its parent a member is: child 0 exactly where the edge that its parent bisects starts at one of the member's corners
+unfoldable pub parent_which : Point → ℕ × ℕ → ℕ
+parent_which u q = of_kind (long_axes u) where
+  of_kind : ℕ → ℕ
+  of_kind (suc (suc (suc o))) = cond (coordinate q.0 (start_point u) % 8 == 0) 0 1
+  of_kind (suc (suc zero)) = cond (coordinate q.1 u % 4 == 0) 0 1
+  of_kind _ = cond (coordinate q.0 u % 4 == 0) 0 1
+
+-- the pair of directions of the parent
+unfoldable pub parent_pair : Point → ℕ × ℕ → ℕ × ℕ
+parent_pair u q = of_kind (long_axes u) (parent_which u q) where
+  of_kind : ℕ → ℕ → ℕ × ℕ
+  of_kind (suc (suc (suc o))) which = (q.1, rest_of u q)
+  of_kind (suc (suc zero)) zero = (q.0, rest_of u q)
+  of_kind (suc (suc zero)) (suc which) = (opposite q.1, q.0)
+  of_kind _ zero = (rest_of u q, q.1)
+  of_kind _ (suc which) = (opposite q.0, q.1)
+
+unfoldable pub half_point : Point → Point
+half_point p = point (p.x / 2) (p.y / 2) (p.z / 2)
+
+-- its centre, in units of twice the length before an edge
+unfoldable pub parent_point : Point → ℕ × ℕ → Point
+parent_point u q = of_kind (long_axes u) where
+  of_kind : ℕ → Point
+  of_kind (suc (suc (suc o))) = half_point (moved 2 q.0 (start_point u))
+  of_kind (suc (suc zero)) = moved 1 q.1 u
+  of_kind _ = moved 1 q.0 u
