@@ -10,10 +10,11 @@ use Rattle.tpz_base.proofs.CutLaw.{Member}
 use Rattle.tpz_base.proofs.Distinct.{at_its_level, tetrahedron_cong}
 use Rattle.tpz_base.proofs.Levels.{IsCentreOf, one_level}
 use Rattle.tpz_base.proofs.Members.{member_named, level_within, centre_of_level}
+use Rattle.tetra_name.specs.Places.{InBox}
 use Rattle.tetra_name.specs.declared.shape.Tet.{Tet}
 use Rattle.tetra_name.specs.Names.{point_of, power_of, tetrahedron_of}
 use Rattle.tetra_name.specs.Steps.{is_member, long_axes, pairs, member_at, members_closed, slot_at}
-use Rattle.tetra_name.proofs.Closed.{InBox}
+
 use Rattle.tetra_name.proofs.Rounds.{child_in_0, child_in_1}
 use Rattle.tetra_name.proofs.MembersLaw.{unit_centre, scale_cancel}
 use Rattle.tetra_name.proofs.Units.{unit_of_level}

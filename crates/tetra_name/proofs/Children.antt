@@ -6,9 +6,10 @@ use Rattle.tpz_base.specs.Tetrahedra.{Tetrahedron, child_0, child_1}
 use Rattle.tpz_base.proofs.CutLaw.{Member}
 use Rattle.tpz_base.proofs.Distinct.{all_at}
 use Rattle.tpz_base.proofs.AxisPaths.{Order, along}
+use Rattle.tetra_name.specs.Places.{InBox}
 use Rattle.tetra_name.specs.Steps.{moved, start, finish, allows, is_member, long_axes, pairs, opposite, rest_of, child_pair, child_point}
 use Rattle.tetra_name.proofs.Directions.{first, second, third, shifted, moved-first, moved-second, moved-third, coordinate-first, coordinate-second, coordinate-third, forwards-first, forwards-second, forwards-third, long_axes-along, by_order, FirstSecond, FirstThird, SecondThird, all-first_second, all-first_third, all-second_third}
-use Rattle.tetra_name.proofs.Closed.{way, ways, start_up, start_down, finish_up, finish_down, scale-along, long_allows, InBox, box-along, cube_is, face_is, edge_is, cube_kind, face_kind, edge_kind, member_parts, Corners}
+use Rattle.tetra_name.proofs.Closed.{way, ways, start_up, start_down, finish_up, finish_down, scale-along, long_allows, box-along, cube_is, face_is, edge_is, cube_kind, face_kind, edge_kind, member_parts, Corners}
 use Rattle.tetra_name.proofs.ChildLaw.{Child, rest-second_third, opposite-first, may_back, cube_child_at_0, cube_child_at_1, face_child_at_0, face_child_at_1, edge_child_at_0, edge_child_at_1}
 
 pub both : {X Y : Type 0} (F : X → Y → Type 0) (x x' : X) (y y' : Y) → x ≡ x' → y ≡ y' → F x y → F x' y'

@@ -7,6 +7,7 @@ use Rattle.tpz_base.proofs.CutLaw.{Member}
 use Rattle.tpz_base.proofs.Distinct.{all_at}
 use Rattle.tpz_base.proofs.AxisPaths.{Order, xyz, xzy, yxz, yzx, zxy, zyx, along}
 use Rattle.tetra_name.specs.Steps.{moved, coordinate, is_forwards, start, finish, start_point, finish_point, allows, is_allowed, is_member, long_axes, pairs, cube_corners, face_corners, edge_corners, corners_at}
+use Rattle.tetra_name.specs.Places.{InBox}
 use Rattle.tetra_name.proofs.Flags.{spot, Big, Small, cube_list, face_list, edge_list, CubeFlag, FaceFlag, EdgeFlag, four}
 use Rattle.tetra_name.proofs.Directions.{first, second, third, shifted, moved-first, moved-second, moved-third, coordinate-first, coordinate-second, coordinate-third, forwards-first, forwards-second, forwards-third, start-along, finish-along, long_axes-along, by_order, pair-first_second, pair-first_third, pair-second_third, FirstSecond, FirstThird, SecondThird, all-first_second, all-first_third, all-second_third}
 
@@ -113,11 +114,6 @@ scale-along h yxz p q r = refl
 scale-along h yzx p q r = refl
 scale-along h zxy p q r = refl
 scale-along h zyx p q r = refl
-
-pub record InBox (N : ℕ) (u : Point) : Type 0 where
-  pub x : u.x ≤ N
-  pub y : u.y ≤ N
-  pub z : u.z ≤ N
 
 pub box-along : (N : ℕ) (w : Order) (p q r : ℕ) → InBox N (along w p q r) → (p ≤ N) × (q ≤ N) × (r ≤ N)
 box-along N xyz p q r h = (h.x, h.y, h.z)

@@ -132,7 +132,7 @@ module _ (N : ℕ) (u : Point) (q r : ℕ × ℕ) (mr : Member pairs r) (valid :
 times_below : (h m n : ℕ) → 0 < h → m < n → h * m < h * n
 times_below h m n pos lt = mul-lt-mul_of_pos_left lt pos
 
-scale_below : (h : ℕ) → 0 < h → (p q : Point) → Below p q → Below (point_scale h p) (point_scale h q)
+pub scale_below : (h : ℕ) → 0 < h → (p q : Point) → Below p q → Below (point_scale h p) (point_scale h q)
 scale_below h pos p q b =
     elim b [
       | inl x ↦ inl (times_below h p.x q.x pos x)
@@ -169,7 +169,7 @@ filter-member p (x ∷ xs) z h e =
       | inr m ↦ elim (cases_Bool (p x)) [ inl k ↦ rw k (inr (filter-member p xs z m e)) | inr k ↦ rw k (filter-member p xs z m e) ]
     ]
 
-strict-map-filter : {X Y : Type 0} (R : X → X → Type 0) (S : Y → Y → Type 0) (f : X → Y) (t : X → Bool) (xs : List X) → Strict R xs
+pub strict-map-filter : {X Y : Type 0} (R : X → X → Type 0) (S : Y → Y → Type 0) (f : X → Y) (t : X → Bool) (xs : List X) → Strict R xs
     → ((x y : X) → Member xs x → Member xs y → t x ≡ true → t y ≡ true → R x y → S (f x) (f y)) → Strict S (map f (filter t xs))
 strict-map-filter R S f t [] h step = tt
 strict-map-filter R S f t (x ∷ xs) h step =

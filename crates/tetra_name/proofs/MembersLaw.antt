@@ -12,11 +12,12 @@ use Rattle.tpz_base.proofs.Distinct.{at_its_level, tetrahedron_cong}
 use Rattle.tpz_base.proofs.Levels.{odd, Multiple, IsCentreOf, one_level}
 use Rattle.tpz_base.proofs.Members.{member-filter, member_named, named_member, level_within, centre_of_level}
 use Rattle.tpz_base.proofs.PointLemmas.{point_cong}
+use Rattle.tetra_name.specs.Places.{InBox, IsUnit}
 use Rattle.tetra_name.specs.Steps.{start, finish, start_point, finish_point, is_member, long_axes, pairs, cube_corners, face_corners, edge_corners, member_at, members_closed}
 use Rattle.tetra_name.proofs.Flags.{spot, cube_list, face_list, edge_list, CubeFlag, FaceFlag, EdgeFlag, big_sum, middle, twice, half_sum}
 use Rattle.tetra_name.proofs.Rounds.{Made, cubes, faces, edges, made_cubes, made_faces, made_edges, even_side}
 use Rattle.tetra_name.proofs.Sorting.{list_below_not, strict_same}
-use Rattle.tetra_name.proofs.Closed.{way, start_up, start_down, finish_up, finish_down, start_flat, finish_flat, ways, InBox, Corners, cube_kind, face_kind, edge_kind, scale-along, Found, found_cube, found_face, found_edge, cube_found, face_found, edge_found}
+use Rattle.tetra_name.proofs.Closed.{way, start_up, start_down, finish_up, finish_down, start_flat, finish_flat, ways, Corners, cube_kind, face_kind, edge_kind, scale-along, Found, found_cube, found_face, found_edge, cube_found, face_found, edge_found}
 use Rattle.tetra_name.proofs.MembersAre.{Before, before-trans, member-map, map-member, filter-member, closed_strict, members_strict}
 
 -- the centre is midway
@@ -122,14 +123,6 @@ multiple s m = cases (m % 2) refl where
   cases zero e = (false, record { half = m / 2; is = (let f : m ≡ 2 * (m / 2) + 0 = omega (arith, e) in ap (λ n. s * n) f) }, sym e)
   cases (suc zero) e = (true, record { half = m / 2; is = (let f : m ≡ 2 * (m / 2) + 1 = omega (arith, e) in ap (λ n. s * n) f) }, sym e)
   cases (suc (suc r)) e = absurd (omega (arith, e))
-
--- a centre in units: the length of a unit is 2 ^ j
-pub record IsUnit (L k j n : ℕ) (u : Point) : Type 0 where
-  pub sum : k + j ≡ L
-  pub box : InBox (2 ^ suc k) u
-  pub some : 0 < long_axes u
-  pub level : n + long_axes u ≡ 3 * k + 3
-  pub within : n ≤ 3 * L
 
 pub unit_centre : (L k j n : ℕ) (u : Point) → IsUnit L k j n u → IsCentreOf L n (point_scale (2 ^ j) u)
 unfolding long_axes

@@ -13,13 +13,14 @@ use Rattle.tpz_base.proofs.CutLaw.{Member}
 use Rattle.tpz_base.proofs.PointLemmas.{point_cong}
 use Rattle.tpz_base.proofs.Members.{member_named}
 use Rattle.tpz_base.proofs.Diamonds.{level_of-at}
+use Rattle.tetra_name.specs.Places.{IsUnit}
 use Rattle.tetra_name.specs.Names.{IsCentre, IsWithin, count_of, over, power_of}
 use Rattle.tpz_base.specs.Diamonds.{level_of}
 use Rattle.tetra_name.specs.Steps.{allows, is_member, long_axes, pairs, member_at, members_closed}
 use Rattle.tetra_name.proofs.Directions.{first, second, third, coordinate-first, coordinate-second, coordinate-third, forwards-first, forwards-second, forwards-third, long_axes-along, pair-first_second, pair-first_third, pair-second_third}
 use Rattle.tetra_name.proofs.Closed.{ways, allows_long, member_from}
 use Rattle.tetra_name.proofs.MembersAre.{filter-member, map-member}
-use Rattle.tetra_name.proofs.MembersLaw.{IsUnit, members_are}
+use Rattle.tetra_name.proofs.MembersLaw.{members_are}
 use Rattle.tetra_name.proofs.Units.{UnitOf, unit_of_member, IsSplit, split, parity, zeros_of, zeros_above}
 
 -- the power of a point in units
@@ -64,7 +65,7 @@ record Some (N : ℕ) (u : Point) : Type 0 where
   has : Member pairs q
   valid : is_member N u q ≡ true
 
-side_of : (N n : ℕ) → 0 < N → n % 2 ≡ 0 → (b : Bool) × (allows N b n ≡ true)
+pub side_of : (N n : ℕ) → 0 < N → n % 2 ≡ 0 → (b : Bool) × (allows N b n ≡ true)
 unfolding allows
 side_of N zero pos e = (true, lt-ltb 0 N pos)
 side_of N (suc n) pos e = (false, rw e (lt-ltb 0 (suc n) (omega arith)))

@@ -6,10 +6,11 @@ use Rattle.tpz_base.specs.declared.shape.Point.{Point}
 use Rattle.tpz_base.specs.Points.{point_scale}
 use Rattle.tpz_base.proofs.CutLaw.{Member}
 use Rattle.tpz_base.proofs.AxisPaths.{Order, xyz, xzy, yxz, yzx, zxy, zyx, along, turned}
+use Rattle.tetra_name.specs.Places.{InBox}
 use Rattle.tetra_name.specs.Steps.{moved, coordinate, start, finish, start_point, allows, is_member, long_axes, pairs, opposite, rest_of, child_pair, child_point, parent_which, parent_pair, parent_point, half_point}
 use Rattle.tetra_name.proofs.Flags.{by_four}
 use Rattle.tetra_name.proofs.Directions.{first, second, third, shifted, moved-first, moved-second, moved-third, coordinate-first, coordinate-second, coordinate-third, forwards-first, forwards-second, forwards-third, start-along, long_axes-along, pair-first_second, pair-first_third, pair-second_third}
-use Rattle.tetra_name.proofs.Closed.{way, start_up, start_down, finish_up, finish_down, shift_start, allows_long, InBox, member_from}
+use Rattle.tetra_name.proofs.Closed.{way, start_up, start_down, finish_up, finish_down, shift_start, allows_long, member_from}
 use Rattle.tetra_name.proofs.Units.{along-box, parity}
 use Rattle.tetra_name.proofs.ChildLaw.{opposite-first, opposite-second, opposite-third, turned-first, turned-second, turned-third, rest-first_second, rest-first_third, rest-second_third, shift_start_half, shift_finish_half, odd_one, may_back, along_cong}
 use Rattle.tetra_name.proofs.Children.{both, pair_3_0, pair_3_1, pair_2_0, pair_2_1, pair_1_0, pair_1_1, point_more_0, point_more_1, point_1_0, point_1_1, three_steps, CubeParts, FaceParts, EdgeParts, cube_parts, face_parts, edge_parts}

@@ -1,57 +1,17 @@
--- A member's steps have room, and its corners lie in the cube.
+-- The corners of a member lie in the cube.
 use Rattle.std.proofs.Common.{◌≡◌, ℕ, zero, suc, ◌+◌, ◌*◌, ◌%◌, ◌^◌, ◌≤◌, ◌<◌, ◌⊎◌, Bool, true, false, List, [], ◌∷◌, map, sym, ◌∙◌, subst, inl, inr, arith, true≢false}
 use Rattle.std.specs.List.{AllByRecursion}
 use Rattle.tpz_base.specs.declared.shape.Point.{Point}
 use Rattle.tpz_base.specs.Points.{point_scale}
 use Rattle.tpz_base.proofs.AxisPaths.{Order}
 use Rattle.tpz_base.proofs.CutLaw.{Member}
-use Rattle.tetra_name.specs.Steps.{moved, coordinate, is_forwards, start, start_point, is_member, long_axes, pairs, corners_at, HasRoom, HasRooms, IsScalable}
+use Rattle.tetra_name.specs.Places.{InBox}
+use Rattle.tetra_name.specs.Steps.{is_member, long_axes, pairs, corners_at, IsScalable}
 use Rattle.tetra_name.proofs.Flags.{spot, cube_list, face_list, edge_list, CubeFlag, FaceFlag, EdgeFlag}
 use Rattle.tetra_name.proofs.Directions.{below_six}
-use Rattle.tetra_name.proofs.Closed.{way, ways, start_up, start_down, start_flat, InBox, Corners, cube_found, face_found, edge_found}
-use Rattle.tetra_name.proofs.MembersAre.{other_axis, coordinate-start, cube_rooms, face_room_0, face_room_1, edge_rooms}
+use Rattle.tetra_name.proofs.Closed.{way, ways, start_up, start_down, start_flat, Corners, cube_found, face_found, edge_found}
+
 use Rattle.tetra_name.proofs.Units.{parity, along-box, big_middle}
-
-start_le : (n : ℕ) → start n ≤ n + 1
-start_le n = elim (parity n) [ inl e ↦ omega (arith, start_flat n e) | inr e ↦ let t = ways n e in ended t.0 t.1 ] where
-  ended : (b : Bool) → n % 4 ≡ way b → start n ≤ n + 1
-  ended true e = omega (arith, start_up n e)
-  ended false e = omega (arith, start_down n e)
-
-inner : (N d : ℕ) (u : Point) → InBox N u → coordinate d u ≤ N
-unfolding coordinate
-inner N zero u h = h.x
-inner N (suc zero) u h = h.y
-inner N (suc (suc zero)) u h = h.z
-inner N (suc (suc (suc zero))) u h = h.z
-inner N (suc (suc (suc (suc zero)))) u h = h.y
-inner N (suc (suc (suc (suc (suc d))))) u h = h.x
-
-room : (s d : ℕ) (p : Point) → coordinate d p + s < 2 ^ 32 → (is_forwards d ≡ true) ⊎ (s ≤ coordinate d p) → HasRoom s d p
-room s d p lt e = (λ f. lt, λ f. elim e [ inl t ↦ absurd (true≢false (sym t ∙ f)) | inr n ↦ n ])
-
-pub rooms_of : (N : ℕ) (u : Point) (q : ℕ × ℕ) → N ≤ 2 ^ 31 → InBox N u → 0 < long_axes u → Member pairs q → is_member N u q ≡ true → HasRooms u q
-rooms_of N u q small box some m valid =
-    let six = below_six q m in
-    let in0 = inner N q.0 u box in
-    let in1 = inner N q.1 u box in
-    let s0 : coordinate q.0 (start_point u) ≤ N + 1 = omega (arith, coordinate-start q.0 u, start_le (coordinate q.0 u), in0) in
-    let s1 : coordinate q.1 (start_point u) ≤ N + 1 = omega (arith, coordinate-start q.1 u, start_le (coordinate q.1 u), in1) in
-    let o2 = other_axis q m 2 (start_point u) in
-    let o1 = other_axis q m 1 u in
-    record {
-      x = omega (arith, box.x, small);
-      y = omega (arith, box.y, small);
-      z = omega (arith, box.z, small);
-      first = six.0;
-      second = six.1;
-      cube = λ o. (let r = cube_rooms N u q o valid in
-          (room 2 q.0 (start_point u) (omega (arith, s0, small)) r.one, room 2 q.1 (moved 2 q.0 (start_point u)) (omega (arith, o2, s1, small)) (rw o2 r.two)));
-      face = λ o. (room 2 q.0 (start_point u) (omega (arith, s0, small)) (face_room_0 N u q o valid), room 1 q.1 u (omega (arith, in1, small)) (face_room_1 N u q o valid));
-      edge = λ o. (let one : long_axes u ≡ 1 = omega (arith, o, some) in
-          let r = edge_rooms N u q one valid in
-          (room 1 q.0 u (omega (arith, in0, small)) r.one, room 1 q.1 (moved 1 q.0 u) (omega (arith, o1, in1, small)) (rw o1 r.two)));
-    }
 
 -- the corners lie in the cube
 box : (N : ℕ) (w : Order) (p q r : ℕ) → p ≤ N → q ≤ N → r ≤ N → InBox N (spot 1 w p q r)

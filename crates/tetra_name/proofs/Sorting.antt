@@ -42,10 +42,10 @@ lt_by_z p q e f h =
     (and_from (p.x == q.x) (nat_lt p.y q.y || (p.y == q.y && nat_lt p.z q.z)) (eq-eqb p.x q.x e)
     (or_right (nat_lt p.y q.y) (p.y == q.y && nat_lt p.z q.z) (and_from (p.y == q.y) (nat_lt p.z q.z) (eq-eqb p.y q.y f) (lt-ltb p.z q.z h))))
 
-true-below : (p q : Point) → Below p q → point_lt p q ≡ true
+pub true-below : (p q : Point) → Below p q → point_lt p q ≡ true
 true-below p q h = elim h [ inl a ↦ lt_by_x p q a | inr b ↦ elim b.1 [ inl c ↦ lt_by_y p q b.0 c | inr d ↦ lt_by_z p q b.0 d.0 d.1 ] ]
 
-below_trans : (p q r : Point) → Below p q → Below q r → Below p r
+pub below_trans : (p q r : Point) → Below p q → Below q r → Below p r
 below_trans p q r h k =
     elim h [
       | inl a ↦ elim k [ inl b ↦ inl (omega (arith, a, b)) | inr b ↦ inl (omega (arith, a, b.0)) ]
@@ -61,7 +61,7 @@ below_trans p q r h k =
       ]
     ]
 
-below_not : (p : Point) → Below p p → ⊥
+pub below_not : (p : Point) → Below p p → ⊥
 below_not p h = elim h [ inl a ↦ absurd (omega (arith, a)) | inr b ↦ elim b.1 [ inl c ↦ absurd (omega (arith, c)) | inr d ↦ absurd (omega (arith, d.1)) ] ]
 
 below_or : (p q : Point) → (p ≡ q) ⊎ (Below p q ⊎ Below q p)

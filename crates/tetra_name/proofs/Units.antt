@@ -8,12 +8,13 @@ use Rattle.tpz_base.proofs.AxisPaths.{Order, xyz, xzy, yxz, yzx, zxy, zyx, along
 use Rattle.tpz_base.proofs.CutLaw.{Member}
 use Rattle.tpz_base.proofs.Distinct.{at_its_level}
 use Rattle.tpz_base.proofs.Members.{member_named, level_within}
+use Rattle.tetra_name.specs.Places.{InBox, IsUnit}
 use Rattle.tetra_name.specs.Steps.{long_axes}
 use Rattle.tetra_name.proofs.Flags.{Big}
 use Rattle.tetra_name.proofs.Rounds.{cubes, faces, edges}
 use Rattle.tetra_name.proofs.Directions.{long_axes-along}
-use Rattle.tetra_name.proofs.Closed.{InBox, scale-along, long_of}
-use Rattle.tetra_name.proofs.MembersLaw.{IsUnit, cube_at, face_at, edge_at}
+use Rattle.tetra_name.proofs.Closed.{scale-along, long_of}
+use Rattle.tetra_name.proofs.MembersLaw.{cube_at, face_at, edge_at}
 
 -- c in units
 pub record UnitOf (L : ℕ) (c : Point) : Type 0 where

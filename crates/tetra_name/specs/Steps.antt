@@ -89,21 +89,6 @@ member_at n h u q = record { level = n; corners = map (point_scale h) (corners_a
 unfoldable pub members_closed : ℕ → ℕ → ℕ → Point → List Tetrahedron
 members_closed n h N u = map (member_at n h u) (filter (is_member N u) pairs)
 
--- a step in this direction leaves neither the numbers nor their range
-abbrev pub HasRoom : ℕ → ℕ → Point → Type 0
-HasRoom s d p = (is_forwards d ≡ true → coordinate d p + s < 2 ^ 32) × (is_forwards d ≡ false → s ≤ coordinate d p)
-
--- the steps that lead to the corners have room
-pub record HasRooms (u : Point) (q : ℕ × ℕ) : Type 0 where
-  pub x : u.x + 1 < 2 ^ 32
-  pub y : u.y + 1 < 2 ^ 32
-  pub z : u.z + 1 < 2 ^ 32
-  pub first : q.0 < 6
-  pub second : q.1 < 6
-  pub cube : long_axes u ≡ 3 → HasRoom 2 q.0 (start_point u) × HasRoom 2 q.1 (moved 2 q.0 (start_point u))
-  pub face : long_axes u ≡ 2 → HasRoom 2 q.0 (start_point u) × HasRoom 1 q.1 u
-  pub edge : long_axes u < 2 → HasRoom 1 q.0 u × HasRoom 1 q.1 (moved 1 q.0 u)
-
 -- the point stays in range when a unit has the length 2 ^ j
 abbrev pub IsScalable : ℕ → Point → Type 0
 IsScalable j p = (p.x * 2 ^ j < 2 ^ 32) × (p.y * 2 ^ j < 2 ^ 32) × (p.z * 2 ^ j < 2 ^ 32)
@@ -165,3 +150,30 @@ parent_point u q = of_kind (long_axes u) where
   of_kind (suc (suc (suc o))) = half_point (moved 2 q.0 (start_point u))
   of_kind (suc (suc zero)) = moved 1 q.1 u
   of_kind _ = moved 1 q.0 u
+
+-- the directions, in ascending order of the points that a step leads to
+unfoldable pub step_directions : List ℕ
+step_directions = 5 ∷ 4 ∷ 3 ∷ 2 ∷ 1 ∷ 0 ∷ []
+
+-- whether a step from the centre of a cube or a face leads to a kid: along a long axis, either way
+unfoldable pub is_kid_step : Point → ℕ → Bool
+is_kid_step u d = coordinate d u % 2 == 1
+
+-- whether a step leads to a parent: for a cube from the start of its edge along a long axis, for a face or an edge from its centre along a flat axis, in the whole cube
+unfoldable pub is_parent_step : ℕ → Point → ℕ → Bool
+is_parent_step N u d = is_allowed N u d && coordinate d u % 2 == long_axes u / 3
+
+-- the eight centres of cubes beside an edge's centre lie by -1 or 1 on each axis in half the unit; here by 0 or 2 on each axis
+unfoldable pub half_offsets : List Point
+half_offsets = point 0 0 0 ∷ point 0 0 2 ∷ point 0 2 0 ∷ point 0 2 2 ∷ point 2 0 0 ∷ point 2 0 2 ∷ point 2 2 0 ∷ point 2 2 2 ∷ []
+
+-- the number less 1 is from 0 to twice N
+abbrev pub is_half : ℕ → ℕ → Bool
+is_half N n = nat_lt 0 n && nat_lt n (2 * N + 2)
+
+-- whether the centre of the cube at this offset lies in the whole cube
+unfoldable pub is_half_step : ℕ → Point → Point → Bool
+is_half_step N u o = is_half N (2 * u.x + o.x) && (is_half N (2 * u.y + o.y) && is_half N (2 * u.z + o.z))
+
+unfoldable pub half_step : Point → Point → Point
+half_step u o = point (2 * u.x + o.x - 1) (2 * u.y + o.y - 1) (2 * u.z + o.z - 1)

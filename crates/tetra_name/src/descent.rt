@@ -1,16 +1,16 @@
 // From a tetrahedron to its children.
-ghost use Rattle.std.specs.Prelude.{◌≡◌, ◌<◌, ◌*◌};
-ghost use Rattle.tetra_name.specs.Steps.{child_pair, child_point};
+ghost use Rattle.std.specs.Prelude.{◌≡◌, ◌<◌, ◌*◌, suc};
 ghost use Rattle.tpz_base.specs.Diamonds.{level_of};
-ghost use Rattle.tetra_name.specs.Names.{child_of, IsBound, IsName, IsWithin, point_of, tetrahedron_of};
+ghost use Rattle.tetra_name.specs.Names.{child_of, point_of, tetrahedron_of, IsBound, IsName, IsWithin};
+ghost use Rattle.tetra_name.specs.Steps.{child_pair, child_point};
 
-use crate::centre::scale_of;
-use crate::direction::{neighbour, rest_of};
+use crate::direction::{long_axes, moved, rest_of};
 use crate::shape::{Half, Tet};
-use crate::slot::{name_of, pair_at};
+use crate::slot::{Place, name_of, place_of};
 
 /// The pair of directions of a child.
-#[tactic(auto, unfolding(crate::specs::Steps::child_pair, crate::specs::Steps::opposite, crate::specs::Steps::long_axes))]
+#[inline]
+#[tactic(auto, unfolding(crate::specs::Steps::child_pair, crate::specs::Steps::opposite))]
 fn child_pair(which: u8, u: Half, q: (u8, u8)) -> (u8, u8)
     requires which { which < 2 }
     requires first { q.0 < 6 }
@@ -20,7 +20,7 @@ fn child_pair(which: u8, u: Half, q: (u8, u8)) -> (u8, u8)
     ensures second { result.1 < 6 }
 {
     let rest = rest_of(u, q);
-    let odds = u.x % 2 + (u.y % 2 + u.z % 2);
+    let odds = long_axes(u);
     if which == 0 {
         if odds == 3 {
             (q.0, rest)
@@ -39,7 +39,8 @@ fn child_pair(which: u8, u: Half, q: (u8, u8)) -> (u8, u8)
 }
 
 /// The centre of a child, in units of half the length after an edge.
-#[tactic(auto, unfolding(crate::specs::Steps::child_point, crate::specs::Steps::opposite, crate::specs::Steps::long_axes))]
+#[inline]
+#[tactic(auto, unfolding(crate::specs::Steps::child_point, crate::specs::Steps::opposite))]
 fn child_point(which: u8, u: Half, q: (u8, u8)) -> Half
     requires which { which < 2 }
     requires first { q.0 < 6 }
@@ -48,12 +49,11 @@ fn child_point(which: u8, u: Half, q: (u8, u8)) -> Half
     ensures { point_of result ≡ child_point which (point_of u) q }
 {
     let rest = rest_of(u, q);
-    let odds = u.x % 2 + (u.y % 2 + u.z % 2);
-    if odds >= 2 {
+    if long_axes(u) >= 2 {
         if which == 0 {
-            neighbour(u, 5 - rest)
+            moved(u, 5 - rest, 1)
         } else {
-            neighbour(u, q.0)
+            moved(u, q.0, 1)
         }
     } else {
         let double = Half {
@@ -61,35 +61,42 @@ fn child_point(which: u8, u: Half, q: (u8, u8)) -> Half
             y: 2 * u.y,
             z: 2 * u.z,
         };
-        let side = neighbour(double, q.1);
-        let face = neighbour(side, q.0);
+        let side = moved(double, q.1, 1);
+        let face = moved(side, q.0, 1);
         if which == 0 {
-            neighbour(face, 5 - rest)
+            moved(face, 5 - rest, 1)
         } else {
-            neighbour(face, rest)
+            moved(face, rest, 1)
         }
     }
 }
 
-/// A child.
+/// A child: 0 has the midpoint of the bisected edge in place of its end, 1 in place of its start.
 pub fn child(t: Tet, which: u8, l: u8) -> Tet
     requires bound { IsBound l }
     requires name { IsName l t }
     requires which { which < 2 }
     requires level { level_of l (point_of t.centre) < 3 * l }
-    ensures { tetrahedron_of l result ≡ child_of which (tetrahedron_of l t) }
+    ensures child { tetrahedron_of l result ≡ child_of which (tetrahedron_of l t) }
+    ensures name { IsName l result }
+    ensures level { level_of l (point_of result.centre) ≡ suc (level_of l (point_of t.centre)) }
 {
-    let v = scale_of(t.centre, l);
-    match pair_at(v.point, v.side, t.slot) {
-        Some(q) => {
-            let pair = child_pair(which, v.point, q);
-            let point = child_point(which, v.point, q);
-            if v.point.x % 2 + (v.point.y % 2 + v.point.z % 2) == 1 {
-                name_of(point, pair, v.power - 1, 2 * v.side)
-            } else {
-                name_of(point, pair, v.power, v.side)
-            }
-        }
-        None => unreachable!(),
+    let p = place_of(t, l);
+    let pair = child_pair(which, p.point, p.pair);
+    let point = child_point(which, p.point, p.pair);
+    if long_axes(p.point) == 1 {
+        name_of(Place {
+            power: p.power - 1,
+            side: 2 * p.side,
+            point,
+            pair,
+        })
+    } else {
+        name_of(Place {
+            power: p.power,
+            side: p.side,
+            point,
+            pair,
+        })
     }
 }

@@ -2,33 +2,28 @@
 ghost use Rattle.std.specs.Prelude.{◌≡◌, ◌<◌, ◌^◌, map};
 ghost use Rattle.std.specs.List.{AllByRecursion};
 ghost use Rattle.tpz_base.specs.Points.{point_scale};
-ghost use Rattle.tetra_name.specs.Steps.{corners_at, HasRooms, IsScalable};
-ghost use Rattle.tetra_name.specs.Names.{corners_of, IsBound, IsName, point_of, root_at, tetrahedron_of};
+ghost use Rattle.tpz_base.specs.Diamonds.{level_of};
+ghost use Rattle.tetra_name.specs.Names.{corners_of, point_of, root_at, tetrahedron_of, IsBound, IsName, IsWithin};
+ghost use Rattle.tetra_name.specs.Steps.{corners_at, IsScalable};
 
-use crate::centre::scale_of;
-use crate::direction::{finish, moved, scaled, start};
+use crate::direction::{finish_point, long_axes, moved, scaled, start_point};
 use crate::shape::{Half, Tet};
-use crate::slot::pair_at;
+use crate::slot::place_of;
 
-/// The corners, in half-units.
-#[tactic(auto, unfolding(crate::specs::Steps::corners_at, crate::specs::Steps::cube_corners, crate::specs::Steps::face_corners, crate::specs::Steps::edge_corners, crate::specs::Steps::start_point, crate::specs::Steps::finish_point, crate::specs::Steps::long_axes))]
+/// The corners that a pair of directions tells, in half-units.
+#[inline]
+#[tactic(auto, unfolding(crate::specs::Steps::corners_at, crate::specs::Steps::cube_corners, crate::specs::Steps::face_corners, crate::specs::Steps::edge_corners))]
 fn corners_at(u: Half, q: (u8, u8), j: u32) -> [Half; 4]
     requires power { j < 32 }
-    requires rooms { HasRooms (point_of u) q }
+    requires first { q.0 < 6 }
+    requires second { q.1 < 6 }
+    requires within { IsWithin 2147483648 (point_of u) }
     requires scalable { AllByRecursion (IsScalable j) (corners_at (point_of u) q) }
     ensures { map point_of result ≡ map (point_scale (2 ^ j)) (corners_at (point_of u) q) }
 {
-    let first = Half {
-        x: start(u.x),
-        y: start(u.y),
-        z: start(u.z),
-    };
-    let last = Half {
-        x: finish(u.x),
-        y: finish(u.y),
-        z: finish(u.z),
-    };
-    let odds = u.x % 2 + (u.y % 2 + u.z % 2);
+    let first = start_point(u);
+    let last = finish_point(u);
+    let odds = long_axes(u);
     if odds == 3 {
         let second = moved(first, q.0, 2);
         let third = moved(second, q.1, 2);
@@ -59,11 +54,13 @@ fn corners_at(u: Half, q: (u8, u8), j: u32) -> [Half; 4]
     }
 }
 
-/// The root at a slot.
+/// The root at a slot. The six roots have the level 0, and are counted by the order of their steps along the axes: xyz, xzy, yxz, yzx, zxy, zyx.
 pub fn root(slot: u8, l: u8) -> Tet
     requires bound { IsBound l }
     requires slot { slot < 6 }
-    ensures { tetrahedron_of l result ≡ root_at l slot }
+    ensures root { tetrahedron_of l result ≡ root_at l slot }
+    ensures name { IsName l result }
+    ensures level { level_of l (point_of result.centre) ≡ 0 }
 {
     let half: u32 = 1 << l;
     Tet {
@@ -76,15 +73,12 @@ pub fn root(slot: u8, l: u8) -> Tet
     }
 }
 
-/// The corners, in the order of the bisection.
+/// The corners x0 to x3 in half-units, in the order of the bisection.
 pub fn corners(t: Tet, l: u8) -> [Half; 4]
     requires bound { IsBound l }
     requires name { IsName l t }
     ensures { map point_of result ≡ corners_of l t }
 {
-    let v = scale_of(t.centre, l);
-    match pair_at(v.point, v.side, t.slot) {
-        Some(q) => corners_at(v.point, q, v.power),
-        None => unreachable!(),
-    }
+    let p = place_of(t, l);
+    corners_at(p.point, p.pair, p.power)
 }

@@ -10,7 +10,7 @@ use Rattle.tpz_base.proofs.PointLemmas.{point_eq-true, eq-point_eq}
 use Rattle.tpz_base.proofs.CutLaw.{Member, is_parent, member-left, member-right}
 use Rattle.tpz_base.proofs.Levels.{IsCentreOf, one_level}
 use Rattle.tpz_base.proofs.Distinct.{member-flat_map, at_its_level}
-use Rattle.tpz_base.proofs.Members.{member-filter, filter-member, member_named, named_member, level_within, centre_of_level, one_level_of}
+use Rattle.tpz_base.proofs.Members.{member-filter, filter-member, member_named, named_member, level_within, centre_of_level, one_level_of, NoTwice, no_twice-differ, level_differs}
 use Rattle.tpz_base.proofs.PointOrder.{point_lt_tie}
 use Rattle.tpz_base.proofs.Elements.{member-map, map-member, flat_map-member, member-in_order, in_order-member}
 use Rattle.tpz_base.specs.Diamonds.{level_of}
@@ -163,3 +163,38 @@ part_level L d T h m =
 
 pub kid_level : (L : ℕ) (d k : Point) → IsSplittable L d → Member (kids L d) k → level_of L k ≡ suc (level_of L d)
 kid_level L d k h m = let r = kid-part L d k m in subst (λ x. level_of L x ≡ suc (level_of L d)) r.2 (part_level L d r.0 h r.1)
+
+-- two children that are equal have one parent, where no child stands twice
+pub one_parent : (xs : List Tetrahedron) (P Q : Tetrahedron) (S : Tetrahedron) → NoTwice (flat_map children xs) → Member xs P → Member xs Q → Member (children P) S → Member (children Q) S → P ≡ Q
+one_parent [] P Q S once p q a b = absurd p
+one_parent (x ∷ xs) P Q S once p q a b =
+    elim p [
+      | inl e ↦ elim q [
+        | inl f ↦ sym e ∙ f
+        | inr n ↦ absurd (clash Q n (subst (λ y. Member (children y) S) (sym e) a) b)
+      ]
+      | inr m ↦ elim q [
+        | inl f ↦ absurd (clash P m (subst (λ y. Member (children y) S) (sym f) b) a)
+        | inr n ↦ one_parent xs P Q S once.1.1 m n a b
+      ]
+    ]
+  where
+    below : (ys : List Tetrahedron) (Q S : Tetrahedron) → Member ys Q → Member (children Q) S → Member (flat_map children ys) S
+    below [] Q S n k = absurd n
+    below (y ∷ ys) Q S n k = elim n [
+      | inl e ↦ (let k' : Member (children y) S = subst (λ z. Member (children z) S) (sym e) k in
+          elim k' [ inl f ↦ inl f | inr g ↦ elim g [ inl f ↦ inr (inl f) | inr none ↦ absurd none ] ])
+      | inr r ↦ inr (inr (below ys Q S r k))
+    ]
+
+    clash : (Q : Tetrahedron) → Member xs Q → Member (children x) S → Member (children Q) S → ⊥
+    clash Q n c k =
+        let later : Member (flat_map children xs) S = below xs Q S n k in
+        elim c [
+          | inl f ↦ once.0 S (inr later) f
+          | inr g ↦ elim g [ inl f ↦ once.1.0 S later f | inr none ↦ absurd none ]
+        ]
+
+-- a tetrahedron up to level 3 L has one parent
+pub parent_once : (L n : ℕ) (P Q S : Tetrahedron) → suc n ≤ 3 * L → Member (at_level L n) P → Member (at_level L n) Q → Member (children P) S → Member (children Q) S → P ≡ Q
+parent_once L n P Q S within p q a b = one_parent (at_level L n) P Q S (no_twice-differ (at_level L (suc n)) (level_differs L (suc n) within)) p q a b

@@ -7,8 +7,8 @@ use Rattle.tetra_name.proofs.slot.name_of.Goals as goal
 
 pub returns-clause-slot : goal.returns-clause-slot
 unfolding slot_at
-returns-clause-slot c = c.slot_at.ensures ∙ sym (length-filter (λ r. pair_lt r c.args.q && is_member c.args.side (point_of c.args.u) r) pairs)
+returns-clause-slot c = c.slot_at.ensures ∙ sym (length-filter (λ r. pair_lt r c.args.p.pair && is_member c.args.p.side (point_of c.args.p.point) r) pairs)
 
 pub overflow_cast-result : goal.overflow_cast-result
 unfolding pairs
-overflow_cast-result c = omega (arith, c.slot_at.ensures, count_by-le-length (λ r. pair_lt r c.args.q && is_member c.args.side (point_of c.args.u) r) pairs)
+overflow_cast-result c = omega (arith, c.slot_at.ensures, count_by-le-length (λ r. pair_lt r c.args.p.pair && is_member c.args.p.side (point_of c.args.p.point) r) pairs)
