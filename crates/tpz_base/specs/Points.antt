@@ -1,4 +1,4 @@
--- Points: their order, sums, midpoints, differences, determinants and distances.
+-- Points: their order, sums, multiples, midpoints, differences, determinants and distances.
 use Rattle.std.specs.Prelude.{ℕ, ◌+◌, ◌-◌, ◌*◌, ◌/◌, max, Bool, ◌&&◌, ◌||◌, ℤ, pos, ◌+ℤ◌, ◌-ℤ◌, ◌*ℤ◌, nat_lt, ◌==◌}
 use Rattle.tpz_base.specs.declared.shape.Point.{Point}
 
@@ -53,3 +53,5 @@ max_dist p q = max (gap_of p.x q.x) (max (gap_of p.y q.y) (gap_of p.z q.z))
 -- the square of the length of q - p
 abbrev pub squared_length : Point → Point → ℕ
 squared_length p q = gap_of p.x q.x * gap_of p.x q.x + gap_of p.y q.y * gap_of p.y q.y + gap_of p.z q.z * gap_of p.z q.z
+abbrev pub point_scale : ℕ → Point → Point
+point_scale k p = point (k * p.x) (k * p.y) (k * p.z)

@@ -1,0 +1,12 @@
+use Rattle.std.proofs.Common.{sym, ◌∙◌}
+use Rattle.tetra_name.specs.Names.{point_of}
+use Rattle.tetra_name.proofs.PlaceLaw.{corners_in, corners_fit}
+use Rattle.tetra_name.proofs.tuple.corners.Goals as goal
+
+pub corners_at-requires-clause-scalable : goal.corners_at-requires-clause-scalable
+corners_at-requires-clause-scalable c =
+    corners_fit c.args.l c.args.t c.place_of-p.result.power c.place_of-p.result.side (point_of c.place_of-p.result.point) c.place_of-p.result.pair c.place_of-p.ensures.place c.requires.bound.most
+
+pub returns : goal.returns
+returns c =
+    c.corners_at.ensures ∙ sym (corners_in c.args.l c.args.t c.place_of-p.result.power c.place_of-p.result.side (point_of c.place_of-p.result.point) c.place_of-p.result.pair c.place_of-p.ensures.place)
