@@ -9,7 +9,7 @@ use Rattle.std.proofs.lemmas.List.FromFn.{map-range_with_len_more}
 use Rattle.std.proofs.lemmas.Grind.{flat_map-append}
 use Rattle.tpz_base.specs.declared.shape.Tri.{Tri}
 use Rattle.tpz_base.specs.Meshes.{Mesh}
-use Rattle.tpz_base.specs.Roots.{corner_sum, root_slot, is_in_root, root_part, roots_parts}
+use Rattle.tpz_base.specs.Roots.{corner_sum, root_slot, is_in_root, root_part, roots_parts, mesh_by_roots}
 use Rattle.tpz_base.specs.Texts.{vertices}
 use Rattle.puzzle_cli.specs.Numbering.{FewVertices}
 use Rattle.puzzle_cli.proofs.NumberLemmas.{vertices-longer}
@@ -66,7 +66,8 @@ few_up M n (suc k) few =
     few_up M n k (few_front (roots_parts M (n + k)) (root_part M (n + k)) (roots_parts M (n + suc k))
     (ap (roots_parts M) last ∙ roots_parts_more M (n + k)) few)
 
-pub few_roots : (M now : Mesh) (n : ℕ) → now ≡ roots_parts M n → n < 6 → FewVertices (roots_parts M 6) → FewVertices (now ++ root_part M n)
+pub few_roots : (M now : Mesh) (n : ℕ) → now ≡ roots_parts M n → n < 6 → FewVertices (mesh_by_roots M) → FewVertices (now ++ root_part M n)
+unfolding mesh_by_roots
 few_roots M now n so_far h few =
     let six : 6 ≡ (n + 1) + (6 - (n + 1)) = omega arith in
     let all : FewVertices (roots_parts M ((n + 1) + (6 - (n + 1)))) = subst (λ (m : ℕ). FewVertices (roots_parts M m)) six few in
@@ -81,3 +82,7 @@ none_added M t place other = sym (ap (λ (l : Mesh). M ++ l) (not_in_root t plac
 
 pub no_part : (M : Mesh) (place : ℕ) → M ≡ M ++ root_part [] place
 no_part M place = sym (append-nil M)
+
+pub all_roots : (M now : Mesh) (n : ℕ) → now ≡ roots_parts M n → 6 ≤ n → n ≤ 6 → now ≡ mesh_by_roots M
+unfolding mesh_by_roots
+all_roots M now n so_far least most = let six : n ≡ 6 = omega arith in so_far ∙ ap (roots_parts M) six

@@ -4,7 +4,7 @@ ghost use Rattle.std.specs.Option.{ForSome};
 ghost use Rattle.tpz_io.specs.Causes.{Rose};
 ghost use Rattle.tpz_io.specs.Writes.{Wrote, WrotePrefix};
 ghost use Rattle.tpz_base.specs.Cubes.{Row};
-ghost use Rattle.tpz_base.specs.Roots.{roots_parts};
+ghost use Rattle.tpz_base.specs.Roots.{mesh_by_roots};
 ghost use Rattle.tpz_base.specs.Texts.{Face};
 ghost use Rattle.ply_body.specs.Plain.{IsPlain, StartsPlain};
 ghost use Rattle.puzzle_cli.specs.Finest.{finest_items, finest_note, items_of};
@@ -33,19 +33,16 @@ fn note_line(
 // Writes the part and the note of what was read.
 fn export<O: Out>(alloc: Global, plain: &Plain, out: &mut O) -> Result<(), WriteFault>
     requires low { IsLow plain.now.low }
-    requires few { FewVertices (roots_parts plain.now.tris.items 6) }
+    requires few { FewVertices (mesh_by_roots plain.now.tris.items) }
     ensures ok { OnOk result (Wrote (items_of plain.now) (O.parts out.old) (O.parts out.new) (O.notes out.old) (O.notes out.new)) }
     ensures front { WrotePrefix (items_of plain.now) (O.parts out.old) (O.parts out.new) (O.notes out.old) (O.notes out.new) }
     ensures later { O.faults out.old ≤ O.faults out.new }
     ensures out { IsErrOf result WriteFault.OutFault → Rose (O.faults out.old) (O.faults out.new) }
 {
-    let mesh = number_by_roots(alloc, &plain.tris)?;
-    let line = note_line(
-        alloc,
-        plain.tris.len(),
-        plain.dropped,
-        mesh.vertices.len(),
-    )?;
+    let tris = plain.tris.as_slice();
+    let mesh = number_by_roots(alloc, tris)?;
+    let vertices = mesh.vertices.as_slice();
+    let line = note_line(alloc, tris.len(), plain.dropped, vertices.len())?;
     write_part(alloc, out, &mesh, &plain.low)?;
     out.note(line.as_bytes())?;
     Ok(())

@@ -2,7 +2,7 @@
 ghost use Rattle.std.specs.Prelude.{◌≡◌, ◌≤◌, ◌<◌, ◌++◌, ◌∷◌, ◌^◌, [], length, IfOk, OnOk};
 ghost use Rattle.indexmap.specs.IndexSet.{insert_key};
 ghost use Rattle.tpz_base.specs.Points.{point_eq};
-ghost use Rattle.tpz_base.specs.Roots.{root_part, roots_parts};
+ghost use Rattle.tpz_base.specs.Roots.{root_part, mesh_by_roots};
 ghost use Rattle.tpz_base.specs.Texts.{number_in};
 ghost use Rattle.puzzle_cli.specs.Numbering.{numbered_mesh, IsNumbering, FewVertices};
 
@@ -92,8 +92,8 @@ impl Numbered {
 
 /// The triangles of each root in turn, with their vertices numbered in the order of first use.
 pub fn number_by_roots(alloc: Global, tris: &[Tri]) -> Result<Numbered, AllocError>
-    requires { FewVertices (roots_parts tris.now 6) }
-    ensures mesh { IfOk result (λ numbered. numbered_mesh numbered ≡ roots_parts tris.now 6) }
+    requires { FewVertices (mesh_by_roots tris.now) }
+    ensures mesh { IfOk result (λ numbered. numbered_mesh numbered ≡ mesh_by_roots tris.now) }
     ensures numbering { IfOk result IsNumbering }
 {
     let mut numbered = Numbered::new(alloc);

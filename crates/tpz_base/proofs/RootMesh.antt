@@ -9,7 +9,8 @@ use Rattle.tpz_base.specs.declared.shape.Point.{Point}
 use Rattle.tpz_base.specs.declared.shape.Tri.{Tri}
 use Rattle.tpz_base.specs.Meshes.{Mesh, tri_eq, SameTriangles}
 use Rattle.tpz_base.specs.Tetrahedra.{Tetrahedron, roots_of_side, roots, tetrahedron_eq}
-use Rattle.tpz_base.specs.Roots.{corner_sum, root_slot, root_of, root_patch, root_mesh, is_in_root, root_part, roots_parts}
+use Rattle.tpz_base.specs.Roots.{corner_sum, root_slot, root_of, root_patch, root_mesh, is_in_root, root_part, mesh_by_roots}
+use Rattle.tpz_base.proofs.SumLemmas.{sum_by-kept}
 
 -- the root at a place, in a cube of this side
 abbrev root_at : ℕ → ℕ → Tetrahedron
@@ -162,8 +163,8 @@ filter_cong p q [] h = refl
 filter_cong p q (x ∷ xs) h = rw (h x) (ap (λ ys. cond (q x) (x ∷ ys) ys) (filter_cong p q xs h))
 
 -- the mesh of the empty cut is the triangles of the six roots in turn
-pub root_mesh_is : (L : ℕ) (M : Mesh) → root_mesh L M ≡ roots_parts M 6
-unfolding root_mesh is_in_root
+pub root_mesh_is : (L : ℕ) (M : Mesh) → root_mesh L M ≡ mesh_by_roots M
+unfolding root_mesh is_in_root mesh_by_roots
 root_mesh_is L M =
     let side = 2 ^ (L + 1) in
     let some : 0 < side = pow_pos (L + 1) in
@@ -181,10 +182,6 @@ root_mesh_is L M =
     let p5 = part 5 (at_5 side no none yes) in
     ap₂ (λ (a b : Mesh). a ++ b) p0 (ap₂ (λ (a b : Mesh). a ++ b) p1 (ap₂ (λ (a b : Mesh). a ++ b) p2
     (ap₂ (λ (a b : Mesh). a ++ b) p3 (ap₂ (λ (a b : Mesh). a ++ b) p4 (ap (λ (a : Mesh). a ++ []) p5)))))
-
-sum_by-kept : {X : Type 0} (f : X → ℕ) (b : Bool) (x : X) (ys : List X) → sum_by f (cond b (x ∷ ys) ys) ≡ cond b (f x) 0 + sum_by f ys
-sum_by-kept f true x ys = sum_by-cons f x ys
-sum_by-kept f false x ys = omega arith
 
 -- a triangle is in one root
 in_one_root : (w : ℕ) (t : Tri) →
@@ -221,8 +218,8 @@ parts_sum f (t ∷ M) =
     )
 
 -- a sum over the six roots is the sum over the mesh
-pub roots_sum : (f : Tri → ℕ) (M : Mesh) → sum_by f (roots_parts M 6) ≡ sum_by f M
-unfolding part_sum
+pub roots_sum : (f : Tri → ℕ) (M : Mesh) → sum_by f (mesh_by_roots M) ≡ sum_by f M
+unfolding part_sum mesh_by_roots
 roots_sum f M =
     let a0 = sum_by-append f (root_part M 0) (root_part M 1 ++ (root_part M 2 ++ (root_part M 3 ++ (root_part M 4 ++ (root_part M 5 ++ []))))) in
     let a1 = sum_by-append f (root_part M 1) (root_part M 2 ++ (root_part M 3 ++ (root_part M 4 ++ (root_part M 5 ++ [])))) in

@@ -1,4 +1,4 @@
-use Rattle.puzzle_cli.proofs.RootLoops.{few_roots, roots_more}
+use Rattle.puzzle_cli.proofs.RootLoops.{few_roots, roots_more, all_roots}
 use Rattle.puzzle_cli.proofs.numbering.number_by_roots.Goals as goal
 
 pub add_root-requires-clause-few : goal.add_root-requires-clause-few
@@ -9,3 +9,6 @@ roots-preserved c = record {
   mesh = roots_more c.args.tris.now _ _ c.roots.place c.roots.invariant.mesh c.in_ok-add_root.ensures.mesh;
   numbering = c.in_ok-add_root.ensures.numbering;
 }
+
+pub returns-clause-mesh : goal.returns-clause-mesh
+returns-clause-mesh c = all_roots c.args.tris.now _ c.roots.place c.roots.invariant.mesh c.roots-test.false c.roots.auto.place-end
