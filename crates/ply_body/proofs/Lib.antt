@@ -1,6 +1,7 @@
 pub mod Coordinates
 pub mod CubeRows
 pub mod Digits
+pub mod FaceLines
 pub mod Heads
 pub mod LineLists
 pub mod RowLines

@@ -3,3 +3,4 @@ pub mod Lines
 pub mod Numbers
 pub mod Places
 pub mod Plain
+pub mod Sorted
