@@ -4,7 +4,9 @@ pub mod Digits
 pub mod FaceLines
 pub mod Heads
 pub mod LineLists
+pub mod PlainTexts
 pub mod RowLines
+pub mod SortedFaces
 pub mod Splits
 pub mod Told
 pub mod Triples

@@ -8,6 +8,10 @@ ghost use Rattle.tpz_base.specs.Texts.{Face};
 ghost use Rattle.ply_body.specs.declared.plain.PlainFault.TheVariants.{InputFault, Memory};
 ghost use Rattle.ply_body.specs.Plain.{IsNearTri, IsPlain, IsReadOf, StartsPlain};
 
+use crate::cube::{low_of_narrow, points_of};
+use crate::faces::read_faces;
+use crate::head::read_head;
+use crate::rows::read_rows;
 use std::alloc::{AllocError, AllocFailed, Global};
 use tpz_base::Tri;
 use tpz_io::{Failed, Reader, Source};
@@ -73,7 +77,17 @@ pub fn read_plain<I: Source>(alloc: Global, src: &mut I) -> Result<Plain, PlainF
     ensures few { IfOk result (λ plain. vec_len plain.tris + plain.dropped ≤ 2147483648) }
     ensures low { IfOk result (λ plain. All (λ z. unsigned_abs z ≤ 2147483647) plain.low) }
 {
-    let _ = Reader::new(alloc);
-    let _ = src.read(&mut [0]);
-    Err(PlainFault::Memory)
+    let mut reader = Reader::new(alloc)?;
+    let counts = read_head(&mut reader, src)?;
+    let rows = read_rows(alloc, &mut reader, src, counts.rows)?;
+    let Some(low) = low_of_narrow(&rows) else {
+        return Err(PlainFault::NotPlain);
+    };
+    let points = points_of(alloc, &rows, low)?;
+    let sorted = read_faces(alloc, &mut reader, src, &points, counts.faces)?;
+    Ok(Plain {
+        low: [i64::from(low.x), i64::from(low.y), i64::from(low.z)],
+        tris: sorted.tris,
+        dropped: sorted.dropped,
+    })
 }
