@@ -1,5 +1,5 @@
 -- The least and the greatest coordinates of rows, and the rows less the least.
-use Rattle.std.proofs.Common.{◌≡◌, ℕ, ◌≤◌, ◌^◌, List, [], ◌∷◌, map, get_or, refl, subst, cond, arith}
+use Rattle.std.proofs.Common.{◌≡◌, ℕ, ◌≤◌, ◌^◌, List, [], ◌∷◌, map, get_or, refl, sym, subst, cond, arith}
 use Rattle.std.specs.Prelude.{◌↔◌, max, Bool, true, false, IsTrue, ℤ, pos, negsuc, ◌-ℤ◌, ◌≤ℤ◌, fold, All, int_lt}
 use Rattle.std.specs.Int.{int_min, int_max}
 use Rattle.std.specs.List.{AllByRecursion}
@@ -7,6 +7,8 @@ use Rattle.std.proofs.lemmas.Int.{ints, clamps}
 use Rattle.std.proofs.lemmas.List.Elements.{All-nil, All-map, All-from_recursion, recursion_from_All}
 use Rattle.tpz_base.specs.Points.{point}
 use Rattle.tpz_base.specs.Cubes.{Row, less, low_of, natural_of, widest}
+use Rattle.ply_body.specs.declared.rows.Spot.{Spot}
+use Rattle.ply_body.specs.Places.{row_of, rows_of}
 use Rattle.ply_body.specs.Hulls.{lower, higher, high_of, width_between, IsOver}
 use Rattle.ply_body.specs.Numbers.{IsCoordinate}
 use Rattle.ply_body.specs.Plain.{points_of, IsNear, IsRow}
@@ -130,3 +132,14 @@ pub low_fits : (rows : List Row) → All IsRow rows → IsRow (low_of rows)
 low_fits [] all = record { x = omega arith; y = omega arith; z = omega arith }
 low_fits (r ∷ rows) all = subst IsRow (low_is r rows)
     (let fits = recursion_from_All IsRow (r ∷ rows) all in fold_fits r rows fits.0 fits.1)
+
+-- what holds of the rows of spots, of the spots
+unmapped : (P : Row → Type 0) (spots : List Spot) → AllByRecursion P (rows_of spots) → AllByRecursion (λ s. P (row_of s)) spots
+unmapped P [] all = tt
+unmapped P (s ∷ spots) all = (all.0, unmapped P spots all.1)
+
+pub all_spots_over : (spots : List Spot) (low : Row) → low ≡ low_of (rows_of spots) → All (λ s. IsOver low (row_of s)) spots
+all_spots_over spots low is =
+    let rows = rows_of spots in
+    All-from_recursion (λ s. IsOver low (row_of s)) spots
+    (unmapped (IsOver low) spots (recursion_from_All (IsOver low) rows (subst (λ (l : Row). All (IsOver l) rows) (sym is) (all_over rows))))

@@ -1,20 +1,30 @@
 -- The rows and faces of a plain input are given by its bytes, and which bytes begin with no plain text.
 use Rattle.std.proofs.Common.{◌≡◌, ℕ, ◌<◌, ◌≤◌, ◌^◌, List, [], ◌∷◌, ◌++◌, length, map, refl, sym, ◌∙◌, ap, subst, arith, append_assoc}
-use Rattle.std.specs.Prelude.{All, flat_map}
-use Rattle.std.proofs.lemmas.List.{map-append}
+use Rattle.std.specs.Prelude.{All}
+use Rattle.std.specs.declared.option.Option.{Option}
+use Rattle.std.proofs.lemmas.List.{length-map}
+use Rattle.std.proofs.lemmas.Simd.{map-map}
 use Rattle.std.proofs.lemmas.Grind.{flat_map-append}
-use Rattle.tpz_base.specs.Cubes.{Row, widest}
+use Rattle.tpz_io.specs.Told.{ahead}
+use Rattle.tpz_base.specs.declared.shape.Point.{Point}
+use Rattle.tpz_base.specs.Cubes.{Row, less, low_of, widest}
 use Rattle.tpz_base.specs.Texts.{Bytes, Face, row_line, face_line, head_lines, lines, ply_text}
+use Rattle.ply_body.specs.declared.faces.Sorted.{Sorted}
+use Rattle.ply_body.specs.declared.plain.Plain.{Plain}
+use Rattle.ply_body.specs.declared.rows.Spot.{Spot}
+use Rattle.ply_body.specs.Bodies.{body_text, HasBody, NoBodyBegins}
 use Rattle.ply_body.specs.Lines.{lines_of, head_text, NoHeadBegins, NoLinesBegin}
-use Rattle.ply_body.specs.Plain.{IsRow, IsFace, IsPlain, IsPlainInput, StartsPlain}
+use Rattle.ply_body.specs.Places.{row_of, rows_of}
+use Rattle.ply_body.specs.Plain.{IsRow, IsFace, IsPlain, IsPlainInput, StartsPlain, points_of, whole_of, broken_of}
+use Rattle.ply_body.specs.Sorted.{HasFaces}
 use Rattle.ply_body.proofs.FaceLines.{same_face, face_above}
 use Rattle.ply_body.proofs.Heads.{IsCount, same_head}
 use Rattle.ply_body.proofs.LineLists.{same_lines}
 use Rattle.ply_body.proofs.RowLines.{same_row, row_above}
+use Rattle.ply_body.proofs.Told.{chained}
 
--- the text of rows and faces is a header, the lines of the rows and the lines of the faces
-text_is : (rows : List Row) (faces : List Face) → ply_text 0 rows faces
-    ≡ head_text (length rows) (length faces) ++ (lines_of row_line rows ++ lines_of face_line faces)
+-- the text of rows and faces is a header and a body
+text_is : (rows : List Row) (faces : List Face) → ply_text 0 rows faces ≡ head_text (length rows) (length faces) ++ body_text rows faces
 unfolding ply_text head_text
 text_is rows faces =
     let line : Bytes → Bytes = λ l. l ++ 10 ∷ [] in
@@ -23,74 +33,55 @@ text_is rows faces =
     ∙ ap (λ (l : Bytes). l ++ lines_of face_line faces) (flat_map-append line head (map row_line rows))
     ∙ append_assoc (lines head) (lines_of row_line rows) (lines_of face_line faces)
 
--- the same with what follows
 spread : (rows : List Row) (faces : List Face) (rest : Bytes) → ply_text 0 rows faces ++ rest
-    ≡ head_text (length rows) (length faces) ++ (lines_of row_line rows ++ (lines_of face_line faces ++ rest))
+    ≡ head_text (length rows) (length faces) ++ (body_text rows faces ++ rest)
 spread rows faces rest =
-    let head = head_text (length rows) (length faces) in
-    ap (λ (l : Bytes). l ++ rest) (text_is rows faces) ∙ append_assoc head (lines_of row_line rows ++ lines_of face_line faces) rest
-    ∙ ap (λ (l : Bytes). head ++ l) (append_assoc (lines_of row_line rows) (lines_of face_line faces) rest)
+    ap (λ (l : Bytes). l ++ rest) (text_is rows faces) ∙ append_assoc (head_text (length rows) (length faces)) (body_text rows faces) rest
 
--- no header, no rows, rows that are too wide, and no faces
-pub no_head : (bytes : Bytes) → NoHeadBegins bytes → IsPlain bytes → ⊥
-no_head bytes none (rows, faces, starts) =
+-- no plain input without its header, and none without its body
+pub no_plain_head : (bytes : Bytes) → NoHeadBegins bytes → IsPlain bytes → ⊥
+no_plain_head bytes none (rows, faces, starts) =
     none (length rows) (length faces) _ starts.input.few_rows starts.input.few_faces (starts.text ∙ spread rows faces starts.rest)
 
--- what stands behind a header in a plain input
-record BehindHead (count faces_count : ℕ) (bytes : Bytes) (rows : List Row) (faces : List Face) (rest : Bytes) : Type 0 where
-  counted : length rows ≡ count
-  faces_counted : length faces ≡ faces_count
-  body : bytes ≡ lines_of row_line rows ++ (lines_of face_line faces ++ rest)
-
-behind_head : (n m : ℕ) (bytes : Bytes) (rows : List Row) (faces : List Face) → IsCount n → IsCount m
-    → (starts : StartsPlain rows faces (head_text n m ++ bytes)) → BehindHead n m bytes rows faces starts.rest
-behind_head n m bytes rows faces n_fits m_fits starts =
+pub no_plain_body : (n m : ℕ) (bytes : Bytes) → IsCount n → IsCount m → NoBodyBegins n m bytes → IsPlain (head_text n m ++ bytes) → ⊥
+no_plain_body n m bytes n_fits m_fits none (rows, faces, starts) =
     let it = same_head n m (length rows) (length faces) bytes _ n_fits m_fits starts.input.few_rows starts.input.few_faces (starts.text ∙ spread rows faces starts.rest) in
-    record { counted = sym it.0; faces_counted = sym it.1; body = it.2 }
+    none rows faces starts.rest starts.input (sym it.0) (sym it.1) it.2
 
-pub no_rows : (n m : ℕ) (bytes : Bytes) → IsCount n → IsCount m → NoLinesBegin IsRow row_line n bytes → IsPlain (head_text n m ++ bytes) → ⊥
-no_rows n m bytes n_fits m_fits none (rows, faces, starts) =
-    let it = behind_head n m bytes rows faces n_fits m_fits starts in
-    none rows (lines_of face_line faces ++ starts.rest) it.counted starts.input.rows_fit it.body
+-- the same of bodies: without rows, with rows that are too wide, without faces
+body_rows : (rows : List Row) (faces : List Face) (rest : Bytes) → body_text rows faces ++ rest ≡ lines_of row_line rows ++ (lines_of face_line faces ++ rest)
+body_rows rows faces rest = append_assoc (lines_of row_line rows) (lines_of face_line faces) rest
 
--- what stands behind a header and so many rows in a plain input
-record BehindRows (count : ℕ) (before : List Row) (bytes : Bytes) (rows : List Row) (faces : List Face) (rest : Bytes) : Type 0 where
-  same : before ≡ rows
-  faces_counted : length faces ≡ count
-  body : bytes ≡ lines_of face_line faces ++ rest
+pub no_rows : (n m : ℕ) (bytes : Bytes) → NoLinesBegin IsRow row_line n bytes → NoBodyBegins n m bytes
+no_rows n m bytes none rows faces rest input counted faces_counted same =
+    none rows (lines_of face_line faces ++ rest) counted input.rows_fit (same ∙ body_rows rows faces rest)
 
-behind_rows : (n m : ℕ) (before : List Row) (bytes : Bytes) (rows : List Row) (faces : List Face) → IsCount n → IsCount m
-    → length before ≡ n → All IsRow before → (starts : StartsPlain rows faces (head_text n m ++ (lines_of row_line before ++ bytes)))
-    → BehindRows m before bytes rows faces starts.rest
-behind_rows n m before bytes rows faces n_fits m_fits counted fit starts =
-    let it = behind_head n m (lines_of row_line before ++ bytes) rows faces n_fits m_fits starts in
-    let that = same_lines Row IsRow row_line row_above same_row before rows bytes (lines_of face_line faces ++ starts.rest) fit starts.input.rows_fit (counted ∙ sym it.counted) it.body in
-    record { same = that.0; faces_counted = it.faces_counted; body = that.1 }
+-- the rows that were taken are those of the body
+body_same : (before rows : List Row) (faces : List Face) (bytes rest : Bytes) → All IsRow before → All IsRow rows → length before ≡ length rows
+    → lines_of row_line before ++ bytes ≡ body_text rows faces ++ rest → (before ≡ rows) × (bytes ≡ lines_of face_line faces ++ rest)
+body_same before rows faces bytes rest fit rows_fit counted same =
+    same_lines Row IsRow row_line row_above same_row before rows bytes (lines_of face_line faces ++ rest) fit rows_fit counted (same ∙ body_rows rows faces rest)
 
-pub too_wide : (n m : ℕ) (before : List Row) (bytes : Bytes) → IsCount n → IsCount m → length before ≡ n → All IsRow before
-    → (widest before ≤ 2 ^ 30 → ⊥) → IsPlain (head_text n m ++ (lines_of row_line before ++ bytes)) → ⊥
-too_wide n m before bytes n_fits m_fits counted fit wide (rows, faces, starts) =
-    let it = behind_rows n m before bytes rows faces n_fits m_fits counted fit starts in
-    wide (subst (λ (l : List Row). widest l ≤ 2 ^ 30) (sym it.same) starts.input.narrow)
+pub too_wide : (n m : ℕ) (before : List Row) (bytes : Bytes) → length before ≡ n → All IsRow before → (widest before ≤ 2 ^ 30 → ⊥)
+    → NoBodyBegins n m (lines_of row_line before ++ bytes)
+too_wide n m before bytes counted fit wide rows faces rest input rows_counted faces_counted same =
+    let it = body_same before rows faces bytes rest fit input.rows_fit (counted ∙ sym rows_counted) same in
+    wide (subst (λ (l : List Row). widest l ≤ 2 ^ 30) (sym it.0) input.narrow)
 
-pub no_faces : (n m : ℕ) (before : List Row) (bytes : Bytes) → IsCount n → IsCount m → length before ≡ n → All IsRow before
-    → NoLinesBegin (IsFace n) face_line m bytes → IsPlain (head_text n m ++ (lines_of row_line before ++ bytes)) → ⊥
-no_faces n m before bytes n_fits m_fits counted fit none (rows, faces, starts) =
-    let it = behind_rows n m before bytes rows faces n_fits m_fits counted fit starts in
-    let count : length rows ≡ n = ap length (sym it.same) ∙ counted in
-    none faces starts.rest it.faces_counted (subst (λ (k : ℕ). All (IsFace k) faces) count starts.input.faces_fit) it.body
+pub no_faces : (n m : ℕ) (before : List Row) (bytes : Bytes) → length before ≡ n → All IsRow before → NoLinesBegin (IsFace n) face_line m bytes
+    → NoBodyBegins n m (lines_of row_line before ++ bytes)
+no_faces n m before bytes counted fit none rows faces rest input rows_counted faces_counted same =
+    let it = body_same before rows faces bytes rest fit input.rows_fit (counted ∙ sym rows_counted) same in
+    none faces rest faces_counted (subst (λ (k : ℕ). All (IsFace k) faces) rows_counted input.faces_fit) it.1
 
--- what was taken is a plain input
-pub is_plain : (n m : ℕ) (rows : List Row) (faces : List Face) (rest : Bytes) → IsCount n → IsCount m → length rows ≡ n → length faces ≡ m
-    → All IsRow rows → All (IsFace n) faces → widest rows ≤ 2 ^ 30
-    → StartsPlain rows faces (head_text n m ++ (lines_of row_line rows ++ (lines_of face_line faces ++ rest)))
-is_plain n m rows faces rest n_fits m_fits counted faces_counted fit faces_fit narrow = record {
-    input = record {
-      few_rows = omega (arith, counted); few_faces = omega (arith, faces_counted); rows_fit = fit;
-      faces_fit = subst (λ (k : ℕ). All (IsFace k) faces) (sym counted) faces_fit; narrow = narrow };
+-- bytes that begin with a header and its body begin plain
+pub starts_plain : (n m : ℕ) (rows : List Row) (faces : List Face) (rest : Bytes) → length rows ≡ n → length faces ≡ m → IsPlainInput rows faces
+    → StartsPlain rows faces (head_text n m ++ (body_text rows faces ++ rest))
+starts_plain n m rows faces rest counted faces_counted input = record {
+    input = input;
     rest = rest;
-    text = ap (λ (k : ℕ). head_text k m ++ (lines_of row_line rows ++ (lines_of face_line faces ++ rest))) (sym counted)
-      ∙ ap (λ (k : ℕ). head_text (length rows) k ++ (lines_of row_line rows ++ (lines_of face_line faces ++ rest))) (sym faces_counted)
+    text = ap (λ (k : ℕ). head_text k m ++ (body_text rows faces ++ rest)) (sym counted)
+      ∙ ap (λ (k : ℕ). head_text (length rows) k ++ (body_text rows faces ++ rest)) (sym faces_counted)
       ∙ sym (spread rows faces rest);
   }
 
@@ -99,12 +90,40 @@ pub one_plain : (rows rows' : List Row) (faces faces' : List Face) (bytes : Byte
     → (rows ≡ rows') × (faces ≡ faces')
 one_plain rows rows' faces faces' bytes starts starts' =
     let n = length rows in
-    let m = length faces in
-    let same : bytes ≡ head_text n m ++ (lines_of row_line rows ++ (lines_of face_line faces ++ starts.rest)) = starts.text ∙ spread rows faces starts.rest in
-    let again : StartsPlain rows' faces' (head_text n m ++ (lines_of row_line rows ++ (lines_of face_line faces ++ starts.rest))) = subst (StartsPlain rows' faces') same starts' in
-    let it = behind_rows n m rows (lines_of face_line faces ++ starts.rest) rows' faces' starts.input.few_rows starts.input.few_faces refl starts.input.rows_fit again in
-    let count : length rows' ≡ n = ap length (sym it.same) in
+    let both : head_text n (length faces) ++ (body_text rows faces ++ starts.rest) ≡ head_text (length rows') (length faces') ++ (body_text rows' faces' ++ starts'.rest) =
+    sym (starts.text ∙ spread rows faces starts.rest) ∙ (starts'.text ∙ spread rows' faces' starts'.rest) in
+    let it = same_head n (length faces) (length rows') (length faces') _ _ starts.input.few_rows starts.input.few_faces starts'.input.few_rows starts'.input.few_faces both in
+    let that = body_same rows rows' faces' (lines_of face_line faces ++ starts.rest) starts'.rest starts.input.rows_fit starts'.input.rows_fit it.0
+    (sym (body_rows rows faces starts.rest) ∙ it.2) in
     let few : n < 2 ^ 32 = omega (arith, starts.input.few_rows) in
-    let that = same_lines Face (IsFace n) face_line (face_above n few) (same_face n few) faces faces' starts.rest again.rest
-    starts.input.faces_fit (subst (λ (k : ℕ). All (IsFace k) faces') count again.input.faces_fit) (sym it.faces_counted) it.body in
-    (it.same, that.0)
+    let last = same_lines Face (IsFace n) face_line (face_above n few) (same_face n few) faces faces' starts.rest starts'.rest
+    starts.input.faces_fit (subst (λ (k : ℕ). All (IsFace k) faces') (sym it.0) starts'.input.faces_fit) it.1 that.1 in
+    (that.0, last.0)
+
+-- the rows less the least coordinates, from spots
+pub points_are : (spots : List Spot) (low : Row) (points : List Point) → low ≡ low_of (rows_of spots)
+    → points ≡ map (λ s. less low (row_of s)) spots → points ≡ points_of (rows_of spots)
+points_are spots low points is are =
+    are ∙ ap (λ (l : Row). map (λ s. less l (row_of s)) spots) is ∙ sym (map-map (less (low_of (rows_of spots))) row_of spots)
+
+-- rows and faces that were taken, as one body
+pub has_body : (n m : ℕ) (old mid new : Option Bytes) (spots : List Spot) (points : List Point) (sorted : Sorted) (faces : List Face) (plain : Plain)
+    → n ≤ 2147483648 → m ≤ 2147483648 → old ≡ ahead (lines_of row_line (rows_of spots)) mid → length spots ≡ n → All IsRow (rows_of spots)
+    → widest (rows_of spots) ≤ 2 ^ 30 → points ≡ points_of (rows_of spots) → HasFaces points m mid new sorted faces
+    → plain.low ≡ (low_of (rows_of spots)).x ∷ (low_of (rows_of spots)).y ∷ (low_of (rows_of spots)).z ∷ [] → plain.tris.items ≡ sorted.tris.items
+    → plain.dropped ≡ sorted.dropped → HasBody n m old new plain (rows_of spots) faces
+has_body n m old mid new spots points sorted faces plain n_fits m_fits taken counted fit narrow are has low tris dropped =
+    let rows = rows_of spots in
+    let long : length rows ≡ n = length-map spots row_of ∙ counted in
+    let point_count : length points ≡ length rows = ap length are ∙ length-map rows (less (low_of rows)) in
+    record {
+      input = record { few_rows = omega (arith, long); few_faces = omega (arith, has.counted); rows_fit = fit;
+        faces_fit = subst (λ (k : ℕ). All (IsFace k) faces) point_count has.fit; narrow = narrow };
+      rows_counted = long;
+      faces_counted = has.counted;
+      taken = chained old mid new (lines_of row_line rows) (lines_of face_line faces) taken has.taken;
+      read = record {
+        low = low;
+        tris = tris ∙ has.tris ∙ ap (λ (l : List Point). whole_of l faces) are;
+        dropped = dropped ∙ has.dropped ∙ ap (λ (l : List Point). broken_of l faces) are };
+    }

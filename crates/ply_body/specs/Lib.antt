@@ -1,3 +1,4 @@
+pub mod Bodies
 pub mod Hulls
 pub mod Lines
 pub mod Numbers
