@@ -5,6 +5,7 @@ pub mod FaceLines
 pub mod Heads
 pub mod LineLists
 pub mod PlainTexts
+pub mod Readings
 pub mod RowLines
 pub mod SortedFaces
 pub mod Splits

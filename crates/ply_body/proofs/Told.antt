@@ -49,3 +49,12 @@ pub chained : (old mid new : Option Bytes) (front back : Bytes) → old ≡ ahea
 chained old mid None front back first second = first ∙ ap (ahead front) second
 chained old mid (Some rest) front back first second =
     first ∙ ap (ahead front) second ∙ ap Some (sym (append_assoc front back rest))
+
+-- a reader that holds nothing
+pub none_held : (held : Bytes) (left : Option Bytes) → held ≡ [] → ahead held left ≡ left
+none_held held None is = refl
+none_held held (Some rest) is = ap (λ (l : Bytes). Some (l ++ rest)) is
+
+-- a front of what a reader that holds nothing is ahead of
+pub head_told : (held : Bytes) (left mid : Option Bytes) (front : Bytes) → held ≡ [] → ahead held left ≡ ahead front mid → left ≡ ahead front mid
+head_told held left mid front is taken = sym (none_held held left is) ∙ taken
