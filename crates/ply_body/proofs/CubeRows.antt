@@ -67,9 +67,10 @@ over_first r (s ∷ rows) =
 
 over_rest : (r : Row) (rows : List Row) → AllByRecursion (IsOver (fold lower r rows)) rows
 over_rest r [] = tt
-over_rest r (s ∷ rows) =
-    (over_trans _ (lower r s) s (over_first (lower r s) rows) (record { x = min_right r.x s.x; y = min_right r.y s.y; z = min_right r.z s.z }),
-    over_rest (lower r s) rows)
+over_rest r (s ∷ rows) = (
+  over_trans _ (lower r s) s (over_first (lower r s) rows) (record { x = min_right r.x s.x; y = min_right r.y s.y; z = min_right r.z s.z }),
+  over_rest (lower r s) rows,
+)
 
 under_first : (r : Row) (rows : List Row) → IsOver r (fold higher r rows)
 under_first r [] = record { x = omega (arith, ints); y = omega (arith, ints); z = omega (arith, ints) }
@@ -78,9 +79,10 @@ under_first r (s ∷ rows) =
 
 under_rest : (r : Row) (rows : List Row) → AllByRecursion (λ s. IsOver s (fold higher r rows)) rows
 under_rest r [] = tt
-under_rest r (s ∷ rows) =
-    (over_trans s (higher r s) _ (record { x = max_right r.x s.x; y = max_right r.y s.y; z = max_right r.z s.z }) (under_first (higher r s) rows),
-    under_rest (higher r s) rows)
+under_rest r (s ∷ rows) = (
+  over_trans s (higher r s) _ (record { x = max_right r.x s.x; y = max_right r.y s.y; z = max_right r.z s.z }) (under_first (higher r s) rows),
+  under_rest (higher r s) rows,
+)
 
 -- no row is below the least coordinates, and none above the greatest
 pub all_over : (rows : List Row) → All (IsOver (low_of rows)) rows
@@ -101,10 +103,10 @@ natural_grows (negsuc a) (negsuc b) below = omega arith
 
 near_by : (low r high : Row) → width_between low high ≤ 2 ^ 30 → IsOver low r → IsOver r high → IsNear (less low r)
 near_by low r high narrow over under = record {
-    x = omega (arith, narrow, natural_grows (r.x -ℤ low.x) (high.x -ℤ low.x) (shift low.x r.x high.x under.x));
-    y = omega (arith, narrow, natural_grows (r.y -ℤ low.y) (high.y -ℤ low.y) (shift low.y r.y high.y under.y));
-    z = omega (arith, narrow, natural_grows (r.z -ℤ low.z) (high.z -ℤ low.z) (shift low.z r.z high.z under.z));
-  }
+  x = omega (arith, narrow, natural_grows (r.x -ℤ low.x) (high.x -ℤ low.x) (shift low.x r.x high.x under.x));
+  y = omega (arith, narrow, natural_grows (r.y -ℤ low.y) (high.y -ℤ low.y) (shift low.y r.y high.y under.y));
+  z = omega (arith, narrow, natural_grows (r.z -ℤ low.z) (high.z -ℤ low.z) (shift low.z r.z high.z under.z));
+}
   where
     shift : (l m h : ℤ) → m ≤ℤ h → (m -ℤ l) ≤ℤ (h -ℤ l)
     shift l m h below = omega (arith, ints)

@@ -11,3 +11,4 @@ pub mod SortedFaces
 pub mod Splits
 pub mod Told
 pub mod Triples
+mod WorkedRows

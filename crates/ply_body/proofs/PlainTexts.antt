@@ -78,12 +78,12 @@ no_faces n m before bytes counted fit none rows faces rest input rows_counted fa
 pub starts_plain : (n m : ℕ) (rows : List Row) (faces : List Face) (rest : Bytes) → length rows ≡ n → length faces ≡ m → IsPlainInput rows faces
     → StartsPlain rows faces (head_text n m ++ (body_text rows faces ++ rest))
 starts_plain n m rows faces rest counted faces_counted input = record {
-    input = input;
-    rest = rest;
-    text = ap (λ (k : ℕ). head_text k m ++ (body_text rows faces ++ rest)) (sym counted)
+  input = input;
+  rest = rest;
+  text = ap (λ (k : ℕ). head_text k m ++ (body_text rows faces ++ rest)) (sym counted)
       ∙ ap (λ (k : ℕ). head_text (length rows) k ++ (body_text rows faces ++ rest)) (sym faces_counted)
       ∙ sym (spread rows faces rest);
-  }
+}
 
 -- two plain inputs that begin the same bytes are one
 pub one_plain : (rows rows' : List Row) (faces faces' : List Face) (bytes : Bytes) → StartsPlain rows faces bytes → StartsPlain rows' faces' bytes
@@ -117,13 +117,19 @@ has_body n m old mid new spots points sorted faces plain n_fits m_fits taken cou
     let long : length rows ≡ n = length-map spots row_of ∙ counted in
     let point_count : length points ≡ length rows = ap length are ∙ length-map rows (less (low_of rows)) in
     record {
-      input = record { few_rows = omega (arith, long); few_faces = omega (arith, has.counted); rows_fit = fit;
-        faces_fit = subst (λ (k : ℕ). All (IsFace k) faces) point_count has.fit; narrow = narrow };
+      input = record {
+        few_rows = omega (arith, long);
+        few_faces = omega (arith, has.counted);
+        rows_fit = fit;
+        faces_fit = subst (λ (k : ℕ). All (IsFace k) faces) point_count has.fit;
+        narrow = narrow;
+      };
       rows_counted = long;
       faces_counted = has.counted;
       taken = chained old mid new (lines_of row_line rows) (lines_of face_line faces) taken has.taken;
       read = record {
         low = low;
         tris = tris ∙ has.tris ∙ ap (λ (l : List Point). whole_of l faces) are;
-        dropped = dropped ∙ has.dropped ∙ ap (λ (l : List Point). broken_of l faces) are };
+        dropped = dropped ∙ has.dropped ∙ ap (λ (l : List Point). broken_of l faces) are;
+      };
     }

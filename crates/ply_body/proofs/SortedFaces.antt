@@ -35,13 +35,13 @@ pub more_faces : (points : List Point) (count : ℕ) (old mid new : Option Bytes
     → length points < 2 ^ 32 → HasFaces points count old mid before faces → IsFace (length points) f → mid ≡ ahead (face_line f ++ 10 ∷ []) new
     → SortsTri before after (triangle_at points f) → HasFaces points (count + 1) old new after (faces ++ f ∷ [])
 more_faces points count old mid new before after faces f few has fits step sorts = record {
-    counted = length-append faces (f ∷ []) ∙ ap (λ (n : ℕ). n + 1) has.counted;
-    fit = All-push (IsFace (length points)) faces f has.fit fits;
-    taken = chained old mid new (lines_of face_line faces) (face_line f ++ 10 ∷ []) has.taken step
+  counted = length-append faces (f ∷ []) ∙ ap (λ (n : ℕ). n + 1) has.counted;
+  fit = All-push (IsFace (length points)) faces f has.fit fits;
+  taken = chained old mid new (lines_of face_line faces) (face_line f ++ 10 ∷ []) has.taken step
       ∙ ap (λ (l : Bytes). ahead l new) (sym (lines_more Face (IsFace (length points)) face_line (face_above (length points) few) faces f));
-    tris = sorts.tris ∙ ap (λ (l : List Tri). l ++ filter is_whole (triangle_at points f ∷ [])) has.tris ∙ sym (whole_more points faces f);
-    dropped = sorts.dropped ∙ ap (λ (n : ℕ). n + count_by (λ t. not (is_whole t)) (triangle_at points f ∷ [])) has.dropped ∙ sym (broken_more points faces f);
-  }
+  tris = sorts.tris ∙ ap (λ (l : List Tri). l ++ filter is_whole (triangle_at points f ∷ [])) has.tris ∙ sym (whole_more points faces f);
+  dropped = sorts.dropped ∙ ap (λ (n : ℕ). n + count_by (λ t. not (is_whole t)) (triangle_at points f ∷ [])) has.dropped ∙ sym (broken_more points faces f);
+}
 
 -- the count of elements with one more in each part
 one_more : (b : Bool) (t : Tri) (kept left ts : List Tri) → length kept + length left ≡ length ts

@@ -49,7 +49,11 @@ impl Sorted {
 }
 
 // Takes the three places of a face's line, and its line feed.
-fn read_corners<I: Source>(reader: &mut Reader, src: &mut I, rows: u32) -> Result<Corners, PlainFault>
+fn read_corners<I: Source>(
+    reader: &mut Reader,
+    src: &mut I,
+    rows: u32,
+) -> Result<Corners, PlainFault>
     ensures corners { IfOk result (λ corners. ahead reader.old (I.left src.old)
         ≡ ahead (places_line (face_of corners) ++ 10 ∷ []) (ahead reader.new (I.left src.new))) }
     ensures fits { IfOk result (λ corners. IsFace rows (face_of corners)) }

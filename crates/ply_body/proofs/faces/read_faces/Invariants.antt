@@ -7,7 +7,7 @@ use Rattle.ply_body.proofs.faces.read_faces.Given as goal
 abbrev pub invariant-faces : goal.invariant-faces
 invariant-faces g l = record {
   read : (faces : List Face)
-    × HasFaces l.points l.counter (ahead l.initial.reader (g.I.Source.left l.initial.src)) (ahead l.reader (g.I.Source.left l.src)) l.sorted faces;
+      × HasFaces l.points l.counter (ahead l.initial.reader (g.I.Source.left l.initial.src)) (ahead l.reader (g.I.Source.left l.src)) l.sorted faces;
   later : g.I.Source.faults l.initial.src ≤ g.I.Source.faults l.src;
   rows : l.rows ≡ length l.points;
   few : l.sorted.dropped ≤ l.counter;

@@ -62,7 +62,10 @@ returns-clause-body g c =
     let narrow = subst (λ (l : List Spot). widest (rows_of l) ≤ 2 ^ 30) c.deref.ensures.value (c.in-Some.ensures.narrow.0 refl) in
     let are = points_are spots low c.deref-3.result.now low_is
     (c.deref-3.ensures.value ∙ c.in_ok-points.ensures ∙ ap (map (λ s. less low (row_of s))) c.deref-2.ensures.value) in
-    let read = c.in_ok-sorted.ensures.faces in
-    (rows_of spots, read.0, has_body c.args.counts.rows c.args.counts.faces _ _ _ spots c.deref-3.result.now c.in_ok-sorted.sorted read.0 _
-    c.requires.rows c.requires.faces c.in_ok-rows.ensures.rows counted c.in_ok-rows.ensures.fit narrow are read.1
-    (c.coordinates.ensures ∙ ap (λ (r : Row). r.x ∷ r.y ∷ r.z ∷ []) low_is) refl refl)
+    let read = c.in_ok-sorted.ensures.faces in (
+      rows_of spots,
+      read.0,
+      has_body c.args.counts.rows c.args.counts.faces _ _ _ spots c.deref-3.result.now c.in_ok-sorted.sorted read.0 _
+          c.requires.rows c.requires.faces c.in_ok-rows.ensures.rows counted c.in_ok-rows.ensures.fit narrow are read.1
+          (c.coordinates.ensures ∙ ap (λ (r : Row). r.x ∷ r.y ∷ r.z ∷ []) low_is) refl refl,
+    )
