@@ -13,6 +13,7 @@ use Rattle.ply_body.specs.Hulls.{lower, higher, high_of, width_between, IsOver}
 use Rattle.ply_body.specs.Numbers.{IsCoordinate}
 use Rattle.ply_body.specs.Plain.{points_of, IsNear, IsRow}
 
+-- rows and points by their coordinates
 pub rows_equal : (x y z x' y' z' : ℤ) → x ≡ x' → y ≡ y' → z ≡ z'
     → ◌≡◌ {A = Row} (record { x = x; y = y; z = z }) (record { x = x'; y = y'; z = z' })
 rows_equal x y z x' y' z' xs ys zs = cc

@@ -1,7 +1,7 @@
 -- The lines of faces: which bytes begin with none, and that the face is given by its line.
-use Rattle.std.proofs.Common.{◌≡◌, ℕ, ◌<◌, ◌^◌, [], ◌∷◌, ◌++◌, ap, arith, decimal}
+use Rattle.std.proofs.Common.{◌≡◌, ℕ, ◌<◌, ◌^◌, [], ◌∷◌, ◌++◌, arith, decimal}
 use Rattle.tpz_base.specs.Texts.{Bytes, Face, face_line}
-use Rattle.ply_body.specs.Numbers.{NoneBegins, NoNumberBegins, IsNoFront}
+use Rattle.ply_body.specs.Numbers.{NoneBegins, NoNumberBegins}
 use Rattle.ply_body.specs.Places.{places_line}
 use Rattle.ply_body.specs.Plain.{IsFace}
 use Rattle.ply_body.proofs.Splits.{AllAbove, AllAbove-append, AllAbove-decimal, same_number}

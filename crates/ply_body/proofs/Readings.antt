@@ -1,6 +1,6 @@
 -- What a header and a body that were taken say of the mesh that was read.
 use Rattle.std.proofs.Common.{◌≡◌, ℕ, ◌+◌, ◌≤◌, List, [], ◌∷◌, ◌++◌, length, sym, ◌∙◌, ap, subst, append_assoc, arith, vec_len}
-use Rattle.std.specs.Prelude.{All, IsTrue, IfOk, IsOk, Result, Ok, Err, unsigned_abs}
+use Rattle.std.specs.Prelude.{All, IsTrue, IfOk, IsOk, Result, Ok, Err}
 use Rattle.std.specs.Option.{ForSome}
 use Rattle.std.specs.declared.option.Option.{Option}
 use Rattle.std.specs.declared.option.Option.TheVariants.{Some}
@@ -13,6 +13,7 @@ use Rattle.tpz_base.specs.Texts.{Bytes, Face}
 use Rattle.ply_body.specs.declared.plain.Plain.{Plain}
 use Rattle.ply_body.specs.Bodies.{body_text, HasBody}
 use Rattle.ply_body.specs.Lines.{head_text}
+use Rattle.ply_body.specs.Numbers.{IsCoordinate}
 use Rattle.ply_body.specs.Plain.{IsFace, IsNearTri, IsPlain, IsReadOf, StartsPlain, points_of, mesh_of}
 use Rattle.ply_body.proofs.CubeRows.{all_near, low_fits}
 use Rattle.ply_body.proofs.PlainTexts.{one_plain, starts_plain}
@@ -47,11 +48,11 @@ module _ (n m : ℕ) (left mid new : Option Bytes) (plain : Plain) (rows : List 
   pub is_few : vec_len plain.tris + plain.dropped ≤ 2147483648
   is_few = omega (arith, ap length has.read.tris, has.read.dropped, all_sorted (points_of rows) faces, has.input.few_faces, plain.tris.ok.0)
 
-  pub low_fits_all : All (λ z. unsigned_abs z ≤ 2147483647) plain.low
+  pub low_fits_all : All IsCoordinate plain.low
   low_fits_all =
       let fits = low_fits rows has.input.rows_fit in
-      All-same (λ z. unsigned_abs z ≤ 2147483647) plain.low ((low_of rows).x ∷ (low_of rows).y ∷ (low_of rows).z ∷ []) has.read.low
-      (All-from_recursion (λ z. unsigned_abs z ≤ 2147483647) ((low_of rows).x ∷ (low_of rows).y ∷ (low_of rows).z ∷ []) (fits.x, (fits.y, (fits.z, tt))))
+      All-same IsCoordinate plain.low ((low_of rows).x ∷ (low_of rows).y ∷ (low_of rows).z ∷ []) has.read.low
+      (All-from_recursion IsCoordinate ((low_of rows).x ∷ (low_of rows).y ∷ (low_of rows).z ∷ []) (fits.x, (fits.y, (fits.z, tt))))
 
 -- what follows from what is said of the value, where there is one
 pub from_ok : {T E : Type 0} (r : Result T E) (P : T → Type 0) (Q : Type 0) → IfOk r P → IsOk r → ((value : T) → P value → Q) → Q

@@ -1,5 +1,5 @@
 -- The definitions of plain inputs, computed on a few of them.
-use Rattle.std.proofs.Common.{◌≡◌, ◌≤◌, ◌^◌, List, [], ◌∷◌, ◌++◌, refl, ◌+◌}
+use Rattle.std.proofs.Common.{◌≡◌, ◌^◌, List, [], ◌∷◌, ◌++◌, refl, ◌+◌}
 use Rattle.std.specs.Prelude.{ℕ, ℤ, pos, negsuc, codes}
 use Rattle.std.specs.Fmt.{digits}
 use Rattle.tpz_base.specs.Points.{point}

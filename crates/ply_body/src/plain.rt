@@ -1,5 +1,5 @@
 // A plain mesh, read from a source.
-ghost use Rattle.std.specs.Prelude.{◌≡◌, ◌+◌, ◌≤◌, List, [], ◌∷◌, All, IsErrOf, IsOk, IsTrue, IfOk, unsigned_abs, vec_len};
+ghost use Rattle.std.specs.Prelude.{◌≡◌, ◌+◌, ◌≤◌, List, [], ◌∷◌, All, IsErrOf, IsOk, IsTrue, IfOk, vec_len};
 ghost use Rattle.std.specs.Option.{ForSome};
 ghost use Rattle.tpz_io.specs.Causes.{Rose};
 ghost use Rattle.tpz_base.specs.Cubes.{Row};
@@ -8,6 +8,7 @@ ghost use Rattle.tpz_base.specs.Texts.{Face};
 ghost use Rattle.ply_body.specs.declared.plain.PlainFault.TheVariants.{InputFault, Memory};
 ghost use Rattle.tpz_io.specs.Told.{ahead};
 ghost use Rattle.ply_body.specs.Bodies.{HasBody, NoBodyBegins};
+ghost use Rattle.ply_body.specs.Numbers.{IsCoordinate};
 ghost use Rattle.ply_body.specs.Plain.{IsNearTri, IsPlain, IsReadOf, StartsPlain};
 
 use crate::cube::{low_of_narrow, points_of};
@@ -77,7 +78,7 @@ pub fn read_plain<I: Source>(alloc: Global, src: &mut I) -> Result<Plain, PlainF
     ensures whole { IfOk result (λ plain. All (λ t. IsTrue (is_whole t)) plain.tris.items) }
     ensures near { IfOk result (λ plain. All IsNearTri plain.tris.items) }
     ensures few { IfOk result (λ plain. vec_len plain.tris + plain.dropped ≤ 2147483648) }
-    ensures low { IfOk result (λ plain. All (λ z. unsigned_abs z ≤ 2147483647) plain.low) }
+    ensures low { IfOk result (λ plain. All IsCoordinate plain.low) }
 {
     let mut reader = Reader::new(alloc)?;
     let counts = read_head(&mut reader, src)?;

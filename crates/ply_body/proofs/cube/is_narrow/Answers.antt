@@ -1,4 +1,4 @@
-use Rattle.std.proofs.Common.{rules, w32, ◌∙◌, sym, false, true}
+use Rattle.std.proofs.Common.{rules, w32, ◌∙◌, sym}
 use Rattle.std.proofs.lemmas.Bool.{false≢true}
 use Rattle.std.proofs.lemmas.Int.{to_z-of_z}
 use Rattle.std.specs.Prelude.{FitsSigned}

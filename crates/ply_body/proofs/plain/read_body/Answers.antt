@@ -10,7 +10,7 @@ use Rattle.ply_body.specs.declared.rows.Spot.{Spot}
 use Rattle.ply_body.specs.Bodies.{NoBodyBegins}
 use Rattle.ply_body.specs.Lines.{lines_of, NoLinesBegin}
 use Rattle.ply_body.specs.Places.{row_of, rows_of}
-use Rattle.ply_body.specs.Plain.{IsFace, points_of}
+use Rattle.ply_body.specs.Plain.{IsFace}
 use Rattle.ply_body.proofs.CubeRows.{all_spots_over}
 use Rattle.ply_body.proofs.PlainTexts.{no_rows, too_wide, no_faces, points_are, has_body}
 use Rattle.ply_body.proofs.Told.{told_behind}
