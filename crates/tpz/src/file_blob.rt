@@ -1,5 +1,5 @@
 // A file as a blob.
-ghost use Rattle.std.specs.Prelude.{◌≡◌, is_some};
+ghost use Rattle.std.specs.Prelude.{◌≡◌};
 ghost use Rattle.std.specs.declared.option.Option.TheVariants.{None};
 ghost use Rattle.tpz_io.specs.Causes.{HasCause, one_more};
 
