@@ -1,5 +1,5 @@
 // Files as an output, and standard output for its notes.
-ghost use Rattle.std.specs.Prelude.{◌≡◌, is_some};
+ghost use Rattle.std.specs.Prelude.{◌≡◌, false, is_some};
 ghost use Rattle.std.specs.declared.option.Option.TheVariants.{None};
 ghost use Rattle.tpz_io.specs.Causes.{one_more};
 
@@ -43,8 +43,8 @@ fn write_all<W: Write>(to: &mut W, bytes: &[u8]) -> Option<()> {
 impl<R: Files<File = File> + Print + Drop> FileOut<R> {
     /// An output into this folder, with no part. No call was made.
     pub fn new(rt: R, alloc: Global, folder: String) -> Self
-        ensures faults { result.faults ≡ 0 }
-        ensures closed { result.file ≡ None }
+        ensures faults { ⟦<FileOut<R> as Out>⟧.faults result ≡ 0 }
+        ensures closed { ⟦<FileOut<R> as Out>⟧.is_open result ≡ false }
     {
         FileOut {
             rt,
