@@ -37,15 +37,15 @@ fn number(vertices: &mut IndexSet<Point>, p: Point) -> Result<u32, AllocError>
 }
 
 impl Numbered {
-    /// No vertex and no triangle.
-    pub fn new(alloc: Global) -> Self
-        ensures mesh { numbered_mesh result ≡ [] }
-        ensures numbering { IsNumbering result }
+    /// No vertex and no triangle, and room for so many triangles. A closed mesh has about half as many vertices as
+    /// triangles; room for a few more is taken at once.
+    pub fn with_room(alloc: Global, tris: usize) -> Result<Self, AllocError>
+        ensures mesh { IfOk result (λ numbered. numbered_mesh numbered ≡ []) }
+        ensures numbering { IfOk result IsNumbering }
     {
-        Numbered {
-            vertices: IndexSet::new(alloc),
-            faces: Vec::new(alloc),
-        }
+        let vertices = IndexSet::with_capacity(alloc, tris / 8 * 5)?;
+        let faces = Vec::with_capacity(alloc, tris)?;
+        Ok(Numbered { vertices, faces })
     }
 
     // Adds a triangle at the end of the mesh.
@@ -96,7 +96,7 @@ pub fn number_by_roots(alloc: Global, tris: &[Tri]) -> Result<Numbered, AllocErr
     ensures mesh { IfOk result (λ numbered. numbered_mesh numbered ≡ mesh_by_roots tris.now) }
     ensures numbering { IfOk result IsNumbering }
 {
-    let mut numbered = Numbered::new(alloc);
+    let mut numbered = Numbered::with_room(alloc, tris.len())?;
     'roots: for place in 0..6u8 {
         numbered.add_root(tris, place)?;
     }
