@@ -1,3 +1,4 @@
+-- The bench isn't simplified while triangles are added.
 use Rattle.std.proofs.Common.{◌≡◌, false}
 use Rattle.edge_collapse.proofs.tests.bench_with.Given as goal
 
