@@ -1,11 +1,8 @@
 -- What a name says of its level, and what the name of a child or a parent says of the other.
-use Rattle.std.proofs.Common.{◌≡◌, ℕ, zero, suc, ◌<◌, ◌≤◌, sym, ◌∙◌, ap, subst, refl, arith, true≢false}
-use Rattle.std.specs.Prelude.{Option, Some, None, IsSome, slice_get}
-use Rattle.std.specs.Option.{option_map}
-use Rattle.tpz_base.specs.declared.shape.Point.{Point}
-use Rattle.tpz_base.specs.Tetrahedra.{Tetrahedron, child_0, child_1, members, descendants}
+use Rattle.std.proofs.Common.{◌≡◌, ℕ, zero, suc, sym, ◌∙◌, ap, refl, true≢false}
+use Rattle.std.specs.Prelude.{Option, Some, None, IsSome}
+use Rattle.tpz_base.specs.Tetrahedra.{Tetrahedron, child_0, child_1, members}
 use Rattle.tpz_base.specs.Diamonds.{level_of}
-use Rattle.tpz_base.proofs.CutLaw.{Member}
 use Rattle.tpz_base.proofs.Members.{member_named}
 use Rattle.tpz_base.proofs.Diamonds.{level_of-at}
 use Rattle.tetra_name.specs.declared.shape.Tet.{Tet}

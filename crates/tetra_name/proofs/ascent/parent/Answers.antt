@@ -20,7 +20,7 @@ name_of-name-requires-2-clause-scalable c =
 pub returns-then-p-l-clause-root : goal.returns-then-p-l-clause-root
 returns-then-p-l-clause-root c = (
   λ e. is_root c.args.l c.args.t c.place_of-p.result.power c.place_of-p.result.side (point_of c.place_of-p.result.point) c.place_of-p.result.pair c.requires.bound.most c.place_of-p.ensures.place
-  (sym c.long_axes.ensures.axes ∙ c.if-long_axes-ne3.false) c.if-p-l.true,
+      (sym c.long_axes.ensures.axes ∙ c.if-long_axes-ne3.false) c.if-p-l.true,
   λ e. refl,
 )
 
