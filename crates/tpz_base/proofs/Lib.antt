@@ -1,8 +1,11 @@
-mod WorkedTetrahedra
-mod CountsL1
-mod CountsL2
 pub mod PointLemmas
 pub mod SumLemmas
+pub mod OrderLemmas
+pub mod RootMesh
+pub mod NearLemmas
+pub mod BorderLaw
+pub mod SimplifyLaw
+pub mod MovesLaw
 pub mod AxisPaths
 pub mod CutLaw
 pub mod Levels
@@ -15,3 +18,9 @@ pub mod EveryPath
 pub mod PointOrder
 pub mod Diamonds
 pub mod RecordLt
+mod ProductSums
+mod WorkedMeshes
+mod WorkedCollapses
+mod WorkedTetrahedra
+mod CountsL1
+mod CountsL2

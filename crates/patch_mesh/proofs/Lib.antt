@@ -1,0 +1,4 @@
+pub mod ListTests
+pub mod MeshTests
+pub mod Keeping
+pub mod FirstUse

@@ -1,0 +1,9 @@
+pub mod Coordinates
+pub mod CubeRows
+pub mod Digits
+pub mod Heads
+pub mod LineLists
+pub mod RowLines
+pub mod Splits
+pub mod Told
+pub mod Triples

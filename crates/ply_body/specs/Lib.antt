@@ -1,0 +1,5 @@
+pub mod Hulls
+pub mod Lines
+pub mod Numbers
+pub mod Places
+pub mod Plain

@@ -1,0 +1,5 @@
+pub mod PartLines
+pub mod Pieces
+pub mod NumberLemmas
+pub mod RootLoops
+pub mod WordLists

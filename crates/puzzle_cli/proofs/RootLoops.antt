@@ -1,0 +1,83 @@
+-- The triangles of the roots, as far as loops have come.
+use Rattle.std.proofs.Common.{◌≡◌, ℕ, ◌+◌, ◌<◌, ◌≤◌, true, false, List, [], ◌∷◌, ◌++◌, length, take, drop, get_or, refl, sym, ◌∙◌, ap, subst, arith, append_assoc, zero, suc, ◌-◌, zero-add, add-zero, map-id}
+use Rattle.std.specs.Prelude.{filter, flat_map}
+use Rattle.std.specs.List.{range_with_len}
+use Rattle.std.proofs.lemmas.Bool.{eq-eqb, ne_eqb}
+use Rattle.std.proofs.lemmas.List.{append-nil, take_more, take-append-drop}
+use Rattle.std.proofs.lemmas.List.Elements.{filter-append}
+use Rattle.std.proofs.lemmas.List.FromFn.{map-range_with_len_more}
+use Rattle.std.proofs.lemmas.Grind.{flat_map-append}
+use Rattle.tpz_base.specs.declared.shape.Tri.{Tri}
+use Rattle.tpz_base.specs.Meshes.{Mesh}
+use Rattle.tpz_base.specs.Roots.{corner_sum, root_slot, is_in_root, root_part, roots_parts}
+use Rattle.tpz_base.specs.Texts.{vertices}
+use Rattle.puzzle_cli.specs.Numbering.{FewVertices}
+use Rattle.puzzle_cli.proofs.NumberLemmas.{vertices-longer}
+
+pub in_root : (t : Tri) (place : ℕ) → root_slot (corner_sum t) ≡ place → root_part (t ∷ []) place ≡ t ∷ []
+unfolding is_in_root
+in_root t place same = rw (eq-eqb (root_slot (corner_sum t)) place same) refl
+
+pub not_in_root : (t : Tri) (place : ℕ) → (root_slot (corner_sum t) ≡ place → ⊥) → root_part (t ∷ []) place ≡ []
+unfolding is_in_root
+not_in_root t place other = rw (ne_eqb (root_slot (corner_sum t)) place other) refl
+
+-- one triangle more
+part_more : (M : Mesh) (i : ℕ) (d : Tri) (place : ℕ) → i < length M
+    → root_part (take (i + 1) M) place ≡ root_part (take i M) place ++ root_part (get_or M i d ∷ []) place
+part_more M i d place h = ap (filter (is_in_root place)) (take_more M i d h) ∙ filter-append (is_in_root place) (take i M) (get_or M i d ∷ [])
+
+-- what is in front of few vertices has few
+few_front : (M N whole : Mesh) → whole ≡ M ++ N → FewVertices whole → FewVertices M
+few_front M N whole same few = omega (arith, vertices-longer M N, ap (λ (l : Mesh). length (vertices l)) same, few)
+
+module _ (old now tris : Mesh) (i : ℕ) (d : Tri) (place : ℕ) (so_far : now ≡ old ++ root_part (take i tris) place) (h : i < length tris) where
+  front : now ++ root_part (get_or tris i d ∷ []) place ≡ old ++ root_part (take (i + 1) tris) place
+  front =
+      ap (λ (l : Mesh). l ++ root_part (get_or tris i d ∷ []) place) so_far ∙ append_assoc old (root_part (take i tris) place) (root_part (get_or tris i d ∷ []) place)
+      ∙ ap (λ (l : Mesh). old ++ l) (sym (part_more tris i d place h))
+
+  pub few_more : FewVertices (old ++ root_part tris place) → FewVertices (now ++ root_part (get_or tris i d ∷ []) place)
+  few_more few =
+      let part = root_part (take (i + 1) tris) place in
+      let rest = root_part (drop (i + 1) tris) place in
+      let split : root_part tris place ≡ part ++ rest =
+      ap (λ (l : Mesh). root_part l place) (sym (take-append-drop (i + 1) tris)) ∙ filter-append (is_in_root place) (take (i + 1) tris) (drop (i + 1) tris) in
+      let whole : old ++ root_part tris place ≡ (now ++ root_part (get_or tris i d ∷ []) place) ++ rest =
+      ap (λ (l : Mesh). old ++ l) split ∙ sym (append_assoc old part rest) ∙ ap (λ (l : Mesh). l ++ rest) (sym front) in
+      few_front (now ++ root_part (get_or tris i d ∷ []) place) rest (old ++ root_part tris place) whole few
+
+  pub mesh_more : (new : Mesh) → new ≡ now ++ root_part (get_or tris i d ∷ []) place → new ≡ old ++ root_part (take (i + 1) tris) place
+  mesh_more new added = added ∙ front
+
+range_more : (a n : ℕ) → range_with_len a (n + 1) ≡ range_with_len a n ++ (a + n) ∷ []
+range_more a n = sym (map-id (range_with_len a (n + 1))) ∙ map-range_with_len_more (λ (k : ℕ). k) a n (a + n) refl ∙ ap (λ (l : List ℕ). l ++ (a + n) ∷ []) (map-id (range_with_len a n))
+
+-- one root more
+pub roots_parts_more : (M : Mesh) (n : ℕ) → roots_parts M (n + 1) ≡ roots_parts M n ++ root_part M n
+roots_parts_more M n =
+    ap (flat_map (root_part M)) (range_more 0 n) ∙ flat_map-append (root_part M) (range_with_len 0 n) ((0 + n) ∷ [])
+    ∙ ap (λ (l : Mesh). roots_parts M n ++ l) (append-nil (root_part M (0 + n)) ∙ ap (root_part M) (zero-add n))
+
+few_up : (M : Mesh) (n k : ℕ) → FewVertices (roots_parts M (n + k)) → FewVertices (roots_parts M n)
+few_up M n zero few = subst (λ (m : ℕ). FewVertices (roots_parts M m)) (add-zero n) few
+few_up M n (suc k) few =
+    let last : n + suc k ≡ (n + k) + 1 = omega arith in
+    few_up M n k (few_front (roots_parts M (n + k)) (root_part M (n + k)) (roots_parts M (n + suc k))
+    (ap (roots_parts M) last ∙ roots_parts_more M (n + k)) few)
+
+pub few_roots : (M now : Mesh) (n : ℕ) → now ≡ roots_parts M n → n < 6 → FewVertices (roots_parts M 6) → FewVertices (now ++ root_part M n)
+few_roots M now n so_far h few =
+    let six : 6 ≡ (n + 1) + (6 - (n + 1)) = omega arith in
+    let all : FewVertices (roots_parts M ((n + 1) + (6 - (n + 1)))) = subst (λ (m : ℕ). FewVertices (roots_parts M m)) six few in
+    let more = few_up M (n + 1) (6 - (n + 1)) all in
+    subst (λ (l : Mesh). FewVertices l) (roots_parts_more M n ∙ ap (λ (l : Mesh). l ++ root_part M n) (sym so_far)) more
+
+pub roots_more : (M now new : Mesh) (n : ℕ) → now ≡ roots_parts M n → new ≡ now ++ root_part M n → new ≡ roots_parts M (n + 1)
+roots_more M now new n so_far added = added ∙ ap (λ (l : Mesh). l ++ root_part M n) so_far ∙ sym (roots_parts_more M n)
+
+pub none_added : (M : Mesh) (t : Tri) (place : ℕ) → (root_slot (corner_sum t) ≡ place → ⊥) → M ≡ M ++ root_part (t ∷ []) place
+none_added M t place other = sym (ap (λ (l : Mesh). M ++ l) (not_in_root t place other) ∙ append-nil M)
+
+pub no_part : (M : Mesh) (place : ℕ) → M ≡ M ++ root_part [] place
+no_part M place = sym (append-nil M)

@@ -1,0 +1,7 @@
+use Rattle.puzzle_cli.specs.Parts.{row_of, face_of}
+use Rattle.tpz_base.specs.Cubes.{shifted}
+use Rattle.puzzle_cli.proofs.PartLines.{face_pieces}
+use Rattle.puzzle_cli.proofs.part_text.push_face.Goals as goal
+
+pub returns : goal.returns
+returns c = cc (face_pieces c.args.buffer.now (face_of c.args.f))

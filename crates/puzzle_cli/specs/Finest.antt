@@ -1,0 +1,36 @@
+-- The command `finest`: its words, and what it writes.
+use Rattle.std.specs.Prelude.{◌≡◌, ℕ, List, [], ◌∷◌, ◌++◌, length, map, codes, decimal, string_bytes}
+use Rattle.std.specs.declared.string.String.{String}
+use Rattle.std.specs.declared.alloc.Global.{Global}
+use Rattle.tpz_io.specs.Writes.{Item, Part, Note}
+use Rattle.tpz_base.specs.Meshes.{Mesh}
+use Rattle.tpz_base.specs.Cubes.{Row, low_of, level_bound}
+use Rattle.tpz_base.specs.Roots.{root_mesh, roots_parts}
+use Rattle.tpz_base.specs.Texts.{Bytes, Face, vertices, text}
+use Rattle.ply_body.specs.declared.plain.Plain.{Plain}
+use Rattle.ply_body.specs.Plain.{mesh_of, dropped_of}
+use Rattle.puzzle_cli.specs.Parts.{row_of}
+
+-- the words are the one word `finest`
+abbrev pub AsksFinest : List (String Global) → Type 0
+AsksFinest words = map string_bytes words ≡ codes "finest" ∷ []
+
+-- the triangles of the input, root by root
+abbrev pub finest_mesh : List Row → List Face → Mesh
+finest_mesh rows faces = root_mesh (level_bound rows) (mesh_of rows faces)
+
+abbrev pub finest_note : ℕ → ℕ → ℕ → Bytes
+finest_note tris dropped vertices =
+    codes "finest tris " ++ (decimal tris ++ (codes " dropped " ++ (decimal dropped ++ (codes " vertices " ++ decimal vertices))))
+
+-- one part, with the mesh in the input's coordinates, and the note
+abbrev pub finest_items : List Row → List Face → List Item
+finest_items rows faces =
+    let M = finest_mesh rows faces in
+    Part (text M (low_of rows) 0) ∷ Note (finest_note (length (mesh_of rows faces)) (dropped_of rows faces) (length (vertices M))) ∷ []
+
+-- what is written for a mesh that was read
+abbrev pub items_of : Plain → List Item
+items_of plain =
+    let M = roots_parts plain.tris.items 6 in
+    Part (text M (row_of plain.low) 0) ∷ Note (finest_note (length plain.tris.items) plain.dropped (length (vertices M))) ∷ []

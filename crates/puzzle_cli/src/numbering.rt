@@ -1,0 +1,104 @@
+// The vertices of a mesh in the order of first use, and its triangles by the numbers of their corners.
+ghost use Rattle.std.specs.Prelude.{◌≡◌, ◌≤◌, ◌<◌, ◌++◌, ◌∷◌, ◌^◌, [], length, IfOk, OnOk};
+ghost use Rattle.indexmap.specs.IndexSet.{insert_key};
+ghost use Rattle.tpz_base.specs.Points.{point_eq};
+ghost use Rattle.tpz_base.specs.Roots.{root_part, roots_parts};
+ghost use Rattle.tpz_base.specs.Texts.{number_in};
+ghost use Rattle.puzzle_cli.specs.Numbering.{numbered_mesh, IsNumbering, FewVertices};
+
+use crate::root_order::root_place;
+use indexmap::IndexSet;
+use std::alloc::{AllocError, Global};
+use tpz_base::{Point, Tri};
+
+/// A triangle by the numbers of its corners.
+#[derive(Clone, Copy, Debug, PartialEq, Eq)]
+pub struct Corners {
+    pub a: u32,
+    pub b: u32,
+    pub c: u32,
+}
+
+/// A mesh whose vertices are numbered from 0 in the order of first use.
+#[derive(Drop)]
+pub struct Numbered {
+    pub vertices: IndexSet<Point>,
+    pub faces: Vec<Corners>,
+}
+
+// The number of p, which is a new one at the end where p wasn't there.
+fn number(vertices: &mut IndexSet<Point>, p: Point) -> Result<u32, AllocError>
+    requires { length vertices.old.keys < 2 ^ 32 }
+    ensures keys { OnOk result (vertices.new.keys ≡ insert_key point_eq vertices.old.keys p) }
+    ensures number { IfOk result (λ n. n ≡ number_in vertices.new.keys p) }
+{
+    let (index, _) = vertices.insert_full(p)?;
+    Ok(index as u32)
+}
+
+impl Numbered {
+    /// No vertex and no triangle.
+    pub fn new(alloc: Global) -> Self
+        ensures mesh { numbered_mesh result ≡ [] }
+        ensures numbering { IsNumbering result }
+    {
+        Numbered {
+            vertices: IndexSet::new(alloc),
+            faces: Vec::new(alloc),
+        }
+    }
+
+    // Adds a triangle at the end of the mesh.
+    fn add(&mut self, t: &Tri) -> Result<(), AllocError>
+        requires numbering { IsNumbering self.old }
+        requires few { FewVertices (numbered_mesh self.old ++ t.now ∷ []) }
+        ensures mesh { OnOk result (numbered_mesh self.new ≡ numbered_mesh self.old ++ t.now ∷ []) }
+        ensures numbering { OnOk result (IsNumbering self.new) }
+    {
+        let a = number(&mut self.vertices, t.a)?;
+        let b = number(&mut self.vertices, t.b)?;
+        let c = number(&mut self.vertices, t.c)?;
+        self.faces.push(Corners { a, b, c })?;
+        Ok(())
+    }
+
+    // Adds a triangle at the end of the mesh where it is in this root.
+    #[tactic(auto, using(crate::proofs::RootLoops::in_root, crate::proofs::RootLoops::not_in_root))]
+    fn add_in_root(&mut self, t: &Tri, place: u8) -> Result<(), AllocError>
+        requires numbering { IsNumbering self.old }
+        requires few { FewVertices (numbered_mesh self.old ++ root_part (t.now ∷ []) place) }
+        ensures mesh { OnOk result (numbered_mesh self.new ≡ numbered_mesh self.old ++ root_part (t.now ∷ []) place) }
+        ensures numbering { OnOk result (IsNumbering self.new) }
+    {
+        if root_place(t) != place {
+            return Ok(());
+        }
+        self.add(t)
+    }
+
+    // Adds the triangles of a root, in order, at the end of the mesh.
+    fn add_root(&mut self, tris: &[Tri], place: u8) -> Result<(), AllocError>
+        requires numbering { IsNumbering self.old }
+        requires few { FewVertices (numbered_mesh self.old ++ root_part tris.now place) }
+        ensures mesh { OnOk result (numbered_mesh self.new ≡ numbered_mesh self.old ++ root_part tris.now place) }
+        ensures numbering { OnOk result (IsNumbering self.new) }
+    {
+        'tris: for t in tris {
+            self.add_in_root(t, place)?;
+        }
+        Ok(())
+    }
+}
+
+/// The triangles of each root in turn, with their vertices numbered in the order of first use.
+pub fn number_by_roots(alloc: Global, tris: &[Tri]) -> Result<Numbered, AllocError>
+    requires { FewVertices (roots_parts tris.now 6) }
+    ensures mesh { IfOk result (λ numbered. numbered_mesh numbered ≡ roots_parts tris.now 6) }
+    ensures numbering { IfOk result IsNumbering }
+{
+    let mut numbered = Numbered::new(alloc);
+    'roots: for place in 0..6u8 {
+        numbered.add_root(tris, place)?;
+    }
+    Ok(numbered)
+}

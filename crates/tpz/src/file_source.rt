@@ -1,0 +1,88 @@
+// A file as a source.
+ghost use Rattle.std.specs.Prelude.{◌≡◌, ◌≤◌, length, IfSome};
+ghost use Rattle.std.specs.declared.option.Option.TheVariants.{None};
+
+use std::fs::File;
+use std::io::{ErrorKind, Read};
+use std::rt::Files;
+use tpz_io::{Failed, Source};
+
+/// Reads a file, which it opens at the first call, and again at the next where that failed. It tells
+/// nothing of what is in it.
+#[derive(Drop)]
+pub struct FileSource<R: Files<File = File> + Drop> {
+    rt: R,
+    path: String,
+    file: Option<File>,
+    faults: u64,
+}
+
+impl<R: Files<File = File> + Drop> FileSource<R> {
+    /// A source of the file at this path. No call was made.
+    pub fn new(rt: R, path: String) -> Self
+        ensures { result.faults ≡ 0 }
+    {
+        FileSource {
+            rt,
+            path,
+            file: None,
+            faults: 0,
+        }
+    }
+
+    // Reads, and again where a signal came between.
+    fn read_some(&mut self, into: &mut [u8]) -> Option<usize>
+        ensures count { IfSome result (λ n. n ≤ length into.new) }
+        ensures faults { self.new.faults ≡ self.old.faults }
+    {
+        if self.file.is_none() {
+            self.file = Some(File::open(&self.rt, self.path.as_str()).ok()?);
+        }
+        let file = self.file.as_mut()?;
+        for _ in 0..u64::MAX {
+            match file.read(into) {
+                Ok(n) => return Some(n),
+                Err(e) if e.kind() == ErrorKind::Interrupted => {}
+                Err(_) => return None,
+            }
+        }
+        None
+    }
+}
+
+impl<R: Files<File = File> + Drop> Source for FileSource<R> {
+    ghost left = { λ _. None };
+
+    ghost faults = { λ s. s.faults };
+
+    fn read(&mut self, into: &mut [u8]) -> Result<usize, Failed> {
+        let count = self.read_some(into);
+        if count.is_none() {
+            self.faults = self.faults.saturating_add(1);
+        }
+        count.ok_or(Failed)
+    }
+}
+
+#[cfg(test)]
+mod tests {
+    use super::*;
+    use std::fs;
+    use std::test::Fail;
+
+    #[test]
+    fn a_file_is_read_in_pieces(rt: HostRuntime) -> Result<(), Fail> {
+        let alloc = rt.alloc();
+        fs::write(&rt, "source.txt", "abcde")?;
+        let mut source = FileSource::new(rt.clone()?, String::from_str(alloc, "source.txt")?);
+        let mut into = [0; 3];
+        assert_eq!(rt; source.read(&mut into), Ok(3));
+        assert_eq!(rt; into, *b"abc");
+        assert_eq!(rt; source.read(&mut into), Ok(2));
+        assert_eq!(rt; source.read(&mut into), Ok(0));
+        let mut missing = FileSource::new(rt.clone()?, String::from_str(alloc, "none.txt")?);
+        assert_eq!(rt; missing.read(&mut into), Err(Failed));
+        assert_eq!(rt; missing.faults, 1);
+        Ok(())
+    }
+}
