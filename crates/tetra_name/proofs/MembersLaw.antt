@@ -58,7 +58,7 @@ pub edge_centre : (h : ℕ) (u : Point) (q : ℕ × ℕ) (T : Tetrahedron) → l
 unfolding edge_corners
 edge_centre h u q T o n e = diamond_at_2 T _ _ _ _ n (e ∙ ap (map (point_scale h)) (edge_kind u q o)) ∙ midway h u
 
-cancelled : (s x y : ℕ) → 0 < s → s * x ≡ s * y → x ≡ y
+pub cancelled : (s x y : ℕ) → 0 < s → s * x ≡ s * y → x ≡ y
 cancelled s x y pos e = sym (mul-div_cancel_left x pos) ∙ ap (λ n. n / s) e ∙ mul-div_cancel_left y pos
 
 pub scale_cancel : (h : ℕ) → 0 < h → (u v : Point) → point_scale h u ≡ point_scale h v → u ≡ v
