@@ -4,7 +4,7 @@ ghost use Rattle.std.specs.List.{AllByRecursion};
 ghost use Rattle.tpz_base.specs.Points.{point_scale};
 ghost use Rattle.tpz_base.specs.Diamonds.{level_of};
 ghost use Rattle.tpz_base.specs.Tetrahedra.{BisectsLongest};
-ghost use Rattle.tetra_name.specs.Names.{corners_of, point_of, root_at, tetrahedron_of, HasOwnCorners, IsBound, IsName, IsWithin, NamesEach};
+ghost use Rattle.tetra_name.specs.Names.{corners_of, point_of, root_at, tetrahedron_of, HasOwnCorners, IsBound, IsCentre, IsName, IsWithin, NamesEach};
 ghost use Rattle.tetra_name.specs.Steps.{corners_at, IsScalable};
 
 use crate::direction::{finish_point, long_axes, moved, scaled, start_point};
@@ -62,6 +62,7 @@ pub fn root(slot: u8, l: u8) -> Tet
     requires slot { slot < 6 }
     ensures root { tetrahedron_of l result ≡ root_at l slot }
     ensures name { IsName l result }
+    ensures centre { IsCentre l (point_of result.centre) }
     ensures level { level_of l (point_of result.centre) ≡ 0 }
     ensures names { NamesEach l }
 {
