@@ -54,9 +54,11 @@ module _ (n m : ℕ) (left mid new : Option Bytes) (plain : Plain) (rows : List 
   pub has_few_corners : HasFewCorners plain.tris.items
   has_few_corners =
       let as_many : length (points_of rows) ≡ length rows = length-map rows (less (low_of rows)) in
-      let among = corners_among (points_of rows) faces (subst (λ (k : ℕ). All (IsFace k) faces) (sym as_many) has.input.faces_fit) in
-      (points_of rows, omega (arith, as_many, has.input.few_rows),
-        subst (λ (M : Mesh). list_all (is_among point_eq (points_of rows)) (corners_of M) ≡ true) (sym has.read.tris) among)
+      let among = corners_among (points_of rows) faces (subst (λ (k : ℕ). All (IsFace k) faces) (sym as_many) has.input.faces_fit) in (
+        points_of rows,
+        omega (arith, as_many, has.input.few_rows),
+        subst (λ (M : Mesh). list_all (is_among point_eq (points_of rows)) (corners_of M) ≡ true) (sym has.read.tris) among,
+      )
 
   pub low_fits_all : All IsCoordinate plain.low
   low_fits_all =

@@ -1,10 +1,10 @@
 // Numbers in their one decimal spelling, and given bytes, taken from the front of the input.
-ghost use Rattle.std.specs.Prelude.{◌≡◌, ◌≢◌, ◌^◌, ◌<◌, ◌≤◌, ℕ, List, [], ◌∷◌, ◌++◌, IfOk, IfSome, IfNone, IsErrOf, OnOk, decimal};
+ghost use Rattle.std.specs.Prelude.{◌≡◌, ◌≢◌, ◌<◌, ◌≤◌, ℕ, List, [], ◌∷◌, ◌++◌, IfOk, IfSome, IfNone, IsErrOf, decimal};
 ghost use Rattle.std.specs.Option.{ForSome};
-ghost use Rattle.tpz_io.specs.Causes.{HasCause, Rose};
+ghost use Rattle.tpz_io.specs.Causes.{Rose};
 ghost use Rattle.tpz_io.specs.Told.{ahead};
 ghost use Rattle.std.specs.Fmt.{signed_decimal};
-ghost use Rattle.ply_body.specs.Numbers.{IsCoordinate, IsNoFront, NoneBegins, NoNumberBegins};
+ghost use Rattle.ply_body.specs.Numbers.{IsCoordinate, NoneBegins, NoNumberBegins};
 
 use crate::plain::PlainFault;
 use tpz_io::{Failed, Reader, Source};

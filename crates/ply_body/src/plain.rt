@@ -65,8 +65,13 @@ impl<T: Drop> From<AllocFailed<T>> for PlainFault {
     }
 }
 
-/// Reads the mesh with whose text the source begins. What follows its last line isn't looked at, but some of it may
-/// have been taken from the source.
+/// Reads the mesh with whose text the source begins: the header of `digits 0`, a line for each row of whole scaled
+/// units, and a line for each triangle, by the places of its corners among the rows. There are at most 2^31 of each,
+/// and the rows are at most 2^30 wide on each axis.
+///
+/// `NotPlain` comes where the source doesn't begin so, `InputFault` where a read failed, and `Memory` where room ran
+/// out. Whatever the answer, the source may have lost bytes behind those that were looked at. A line is refused at the
+/// first byte that no plain input has there, so reading ends on every source.
 pub fn read_plain<I: Source>(alloc: Global, src: &mut I) -> Result<Plain, PlainFault>
     ensures read { IfOk result (λ plain. ForSome (I.left src.old) (λ bytes.
         (rows : List Row) (faces : List Face) → StartsPlain rows faces bytes → IsReadOf plain rows faces)) }

@@ -19,9 +19,8 @@ mod root_order;
 mod status;
 mod words;
 
-pub use status::Status;
-
 use crate::words::asks_finest;
+pub use status::Status;
 use std::alloc::Global;
 use tpz_io::{Blob, Out, Source};
 

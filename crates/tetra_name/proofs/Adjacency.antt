@@ -1,13 +1,10 @@
 -- Kids and parents of a diamond by the pairs of directions of its members.
-use Rattle.std.proofs.Common.{◌≡◌, ℕ, zero, suc, ◌+◌, ◌-◌, ◌*◌, ◌^◌, ◌≤◌, ◌<◌, ◌≢◌, ◌⊎◌, true, List, [], ◌∷◌, map, refl, sym, ◌∙◌, ap, subst, inl, inr, arith}
-use Rattle.std.specs.Prelude.{filter, Some, All}
-use Rattle.std.specs.Option.{option_map}
-use Rattle.std.proofs.lemmas.List.Elements.{All-nil, All-cons}
-use Rattle.std.proofs.lemmas.Bool.{or_left, or_right}
+use Rattle.std.proofs.Common.{◌≡◌, ℕ, zero, suc, ◌+◌, ◌-◌, ◌*◌, ◌/◌, ◌^◌, ◌≤◌, ◌<◌, ◌≢◌, true, List, [], ◌∷◌, map, refl, sym, ◌∙◌, ap, subst, inl, inr, arith}
+use Rattle.std.specs.Prelude.{filter, Some}
 use Rattle.tpz_base.specs.declared.shape.Point.{Point}
 use Rattle.tpz_base.specs.Lists.{in_order}
 use Rattle.tpz_base.specs.Points.{point_lt, point_scale}
-use Rattle.tpz_base.specs.Tetrahedra.{Tetrahedron, diamond, child_0, child_1, children, at_level, descendants, members, parts, kids, parents}
+use Rattle.tpz_base.specs.Tetrahedra.{Tetrahedron, diamond, children, at_level, descendants, members, parts, kids, parents}
 use Rattle.tpz_base.specs.Diamonds.{level_of}
 use Rattle.tpz_base.proofs.CutLaw.{Member, is_parent}
 use Rattle.tpz_base.proofs.PointOrder.{point_lt_tie, point_lt-through}
@@ -15,16 +12,15 @@ use Rattle.tpz_base.proofs.Distinct.{member-flat_map}
 use Rattle.tpz_base.proofs.Levels.{IsCentreOf, one_level}
 use Rattle.tpz_base.proofs.Members.{member-filter, filter-member, member_named, named_member, centre_of_level}
 use Rattle.tpz_base.proofs.Elements.{Ascending, in_order-ascending, member-in_order, in_order-member, member-map, map-member, flat_map-member}
-use Rattle.tpz_base.proofs.Diamonds.{IsSplittable, level_at, child-is_parent, is_parent-child, child_at as child_in_level, in_levels, kid_level, kid-part, part-parent, parents-member, parent_level, level_of-at, parent_once}
-use Rattle.tetra_name.specs.declared.shape.Half.{Half}
+use Rattle.tpz_base.proofs.Diamonds.{level_at, child-is_parent, is_parent-child, child_at as child_in_level, in_levels, parent_once}
 use Rattle.tetra_name.specs.declared.shape.Tet.{Tet}
-use Rattle.tetra_name.specs.Names.{child_of, count_of, half_of, point_of, tetrahedron_of, IsCentre, IsName}
+use Rattle.tetra_name.specs.Names.{child_of, half_of, point_of, tetrahedron_of, IsName}
 use Rattle.tetra_name.specs.Steps.{is_member, long_axes, pairs, member_at, slot_at, child_pair, child_point, parent_which, parent_pair, parent_point}
-use Rattle.tetra_name.specs.Places.{IsUnit, IsScale, IsPlace}
+use Rattle.tetra_name.specs.Places.{IsScale, IsPlace}
 use Rattle.tetra_name.proofs.Sorting.{Below, Strict, strict_same, below-true, below_not, below_trans}
-use Rattle.tetra_name.proofs.OneName.{get_member, member_get}
+use Rattle.tetra_name.proofs.OneName.{get_member}
 use Rattle.tetra_name.proofs.MembersLaw.{unit_centre}
-use Rattle.tetra_name.proofs.PlaceLaw.{members_in, level_of_scale, centre_of_scale, stands, in_its_level}
+use Rattle.tetra_name.proofs.PlaceLaw.{members_in, level_of_scale, stands, in_its_level}
 use Rattle.tetra_name.proofs.SlotLaw.{slot_of_pair}
 use Rattle.tetra_name.proofs.NameFacts.{child_at, child_of-some, child_at-level, some_of}
 use Rattle.tetra_name.proofs.ChildFacts.{named, edge_named}
@@ -64,7 +60,7 @@ module _ (L : ℕ) (c : Point) (j N : ℕ) (u : Point) (S : IsScale L c j N u) w
   unfolding name_at
   place_at q v = record { scale = S; slot = slot_of_pair N u q v.has v.valid }
 
-  T_of : ℕ × ℕ → Tetrahedron
+  pub T_of : ℕ × ℕ → Tetrahedron
   T_of q = member_at S.n (2 ^ j) u q
 
   listed : (q : ℕ × ℕ) → IsPair N u q → Member (members L c) (T_of q)
@@ -81,11 +77,11 @@ module _ (L : ℕ) (c : Point) (j N : ℕ) (u : Point) (S : IsScale L c j N u) w
       (r.0, record { has = k.0; valid = k.1 }, r.2)
 
   T_stands : (q : ℕ × ℕ) (v : IsPair N u q) → tetrahedron_of L (name_at q) ≡ Some (T_of q)
-  unfolding T_of
+  unfolding T_of place_at
   T_stands q v = stands L (name_at q) j N u q (place_at q v)
 
   T_in_level : (q : ℕ × ℕ) (v : IsPair N u q) → Member (at_level L S.n) (T_of q)
-  unfolding T_of
+  unfolding T_of place_at
   T_in_level q v = in_its_level L (name_at q) j N u q (place_at q v)
 
   T_level : (q : ℕ × ℕ) → (T_of q).level ≡ S.n
@@ -108,13 +104,13 @@ module _ (L : ℕ) (c : Point) (j N : ℕ) (u : Point) (S : IsScale L c j N u) w
     pub flat_child : (q : ℕ × ℕ) → IsPair N u q → (which : ℕ) → which < 2 → long_axes u ≢ 1 → diamond (child_at which (T_of q)) ≡ point_scale (2 ^ j) (child_point which u q)
     unfolding name_at
     flat_child q v which lt n =
-        let r = record { centre = half_of (point_scale (2 ^ j) (child_point which u q)); slot = slot_at N (child_point which u q) (child_pair which u q) } in
+        let r : Tet = record { centre = half_of (point_scale (2 ^ j) (child_point which u q)); slot = slot_at N (child_point which u q) (child_pair which u q) } in
         child_centre q v which r (named L (name_at q) j N u q most (place_at q v) above which r lt n refl refl)
 
     pub edge_child : (q : ℕ × ℕ) → IsPair N u q → (which : ℕ) → which < 2 → long_axes u ≡ 1 → diamond (child_at which (T_of q)) ≡ point_scale (2 ^ (j - 1)) (child_point which u q)
     unfolding name_at
     edge_child q v which lt o =
-        let r = record { centre = half_of (point_scale (2 ^ (j - 1)) (child_point which u q)); slot = slot_at (2 * N) (child_point which u q) (child_pair which u q) } in
+        let r : Tet = record { centre = half_of (point_scale (2 ^ (j - 1)) (child_point which u q)); slot = slot_at (2 * N) (child_point which u q) (child_pair which u q) } in
         child_centre q v which r (edge_named L (name_at q) j N u q most (place_at q v) above which r lt o refl refl)
 
     -- the kids are the children's centres
@@ -137,15 +133,15 @@ module _ (L : ℕ) (c : Point) (j N : ℕ) (u : Point) (S : IsScale L c j N u) w
         subst (Member (map diamond (parts L c))) (law r.0 r.1 r.2.0 r.2.1 ∙ r.2.2) (map-member diamond (parts L c) (child_at r.2.0 T) part))
 
   -- parents
-  module _ (most : L ≤ 30) (deep : 0 < S.n) where
+  module _ (most : L ≤ 30) where
     -- the parent of a member
-    record Above (q : ℕ × ℕ) (z : Point) : Type 0 where
-      P : Tetrahedron
-      within : Member (descendants L) P
-      which : ℕ
-      few : which < 2
-      child : child_at which P ≡ T_of q
-      centre : diamond P ≡ z
+    pub record Above (q : ℕ × ℕ) (z : Point) : Type 0 where
+      pub P : Tetrahedron
+      pub within : Member (descendants L) P
+      pub which : ℕ
+      pub few : which < 2
+      pub child : child_at which P ≡ T_of q
+      pub centre : diamond P ≡ z
 
     above_of : (q : ℕ × ℕ) (v : IsPair N u q) (which : ℕ) (r : Tet) → IsParent L which (name_at q) r → Above q (point_of r.centre)
     unfolding IsName
@@ -157,12 +153,12 @@ module _ (L : ℕ) (c : Point) (j N : ℕ) (u : Point) (S : IsScale L c j N u) w
 
     pub flat_above : (q : ℕ × ℕ) → IsPair N u q → long_axes u ≢ 3 → Above q (point_scale (2 ^ j) (parent_point u q))
     flat_above q v n =
-        let r = record { centre = half_of (point_scale (2 ^ j) (parent_point u q)); slot = slot_at N (parent_point u q) (parent_pair u q) } in
+        let r : Tet = record { centre = half_of (point_scale (2 ^ j) (parent_point u q)); slot = slot_at N (parent_point u q) (parent_pair u q) } in
         above_of q v (parent_which u q) r (flat_named L (name_at q) j N u q most (place_at q v) r n refl refl)
 
     pub cube_above : (q : ℕ × ℕ) → IsPair N u q → long_axes u ≡ 3 → j ≢ L → Above q (point_scale (2 ^ (j + 1)) (parent_point u q))
     cube_above q v o n =
-        let r = record { centre = half_of (point_scale (2 ^ (j + 1)) (parent_point u q)); slot = slot_at (N / 2) (parent_point u q) (parent_pair u q) } in
+        let r : Tet = record { centre = half_of (point_scale (2 ^ (j + 1)) (parent_point u q)); slot = slot_at (N / 2) (parent_point u q) (parent_pair u q) } in
         above_of q v (parent_which u q) r (cube_parent L (name_at q) j N u q most (place_at q v) r o n refl refl)
 
     -- a tetrahedron with a child of this centre is a member's parent
@@ -213,3 +209,15 @@ module _ (L : ℕ) (c : Point) (j N : ℕ) (u : Point) (S : IsScale L c j N u) w
         let parent : is_parent L A.P c ≡ true = subst (λ x. is_parent L A.P x ≡ true) named (is_parent-child L A.P (T_of r.0) mine) in
         subst (Member (map diamond (filter (λ P. is_parent L P c) (descendants L)))) (A.centre ∙ r.2)
         (map-member diamond (filter (λ P. is_parent L P c) (descendants L)) A.P (filter-member (λ P. is_parent L P c) (descendants L) A.P A.within parent)))
+
+    -- nothing is above the roots
+    pub no_parents : S.n ≡ 0 → parents L c ≡ []
+    no_parents top =
+        in_order_is (map diamond (filter (λ P. is_parent L P c) (descendants L))) [] tt
+        (λ z m. let r = member-map diamond (filter (λ P. is_parent L P c) (descendants L)) z m in
+        let f = member-filter (λ P. is_parent L P c) (descendants L) r.0 r.1 in
+        let b = below_of r.0 f.0 f.1 in
+        let w = which_child r.0 (T_of b.q) b.child in
+        let up : suc r.0.level ≡ S.n = sym (child_at-level w.0 r.0) ∙ ap (λ (X : Tetrahedron). X.level) w.2 ∙ T_level b.q in
+        absurd (omega (arith, up, top)))
+        (λ z m. absurd m)

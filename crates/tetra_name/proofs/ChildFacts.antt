@@ -1,30 +1,26 @@
 -- What `child` needs, from a name.
-use Rattle.std.proofs.Common.{◌≡◌, ℕ, zero, suc, true, ◌≢◌, ◌+◌, ◌-◌, ◌*◌, ◌%◌, ◌^◌, ◌≤◌, ◌<◌, refl, sym, ◌∙◌, ap, subst, arith}
-use Rattle.std.specs.Prelude.{filter, slice_get, Some}
+use Rattle.std.proofs.Common.{◌≡◌, ℕ, zero, suc, true, ◌≢◌, ◌+◌, ◌-◌, ◌*◌, ◌%◌, ◌^◌, ◌≤◌, ◌<◌, refl, sym, ◌∙◌, ap, arith}
+use Rattle.std.specs.Prelude.{Some}
 use Rattle.std.specs.Option.{option_map}
-use Rattle.std.proofs.lemmas.Option.{slice_get-map}
 use Rattle.tpz_base.specs.declared.shape.Point.{Point}
 use Rattle.tpz_base.specs.Points.{point_scale}
 use Rattle.tpz_base.specs.Tetrahedra.{Tetrahedron, diamond, child_0, child_1, at_level}
 use Rattle.tpz_base.specs.Diamonds.{level_of}
 use Rattle.tpz_base.proofs.CutLaw.{Member}
-use Rattle.tpz_base.proofs.Members.{member-filter}
 use Rattle.tetra_name.specs.Places.{InBox, IsPlace}
 use Rattle.tetra_name.specs.declared.shape.Tet.{Tet}
-use Rattle.tetra_name.specs.Names.{child_of, over, point_of, power_of, tetrahedron_of, IsName, IsWithin}
+use Rattle.tetra_name.specs.Names.{child_of, point_of, tetrahedron_of, IsWithin}
 use Rattle.tetra_name.specs.Steps.{is_member, long_axes, pairs, member_at, slot_at, child_pair, child_point, IsScalable}
 use Rattle.tetra_name.proofs.Closed.{Corners}
 use Rattle.tetra_name.proofs.MembersLaw.{cube_centre, face_centre, edge_centre}
 use Rattle.tetra_name.proofs.PlaceLaw.{stands, picked, in_its_level, level_of_scale, box_of_scale, side_small, side_of_scale}
 use Rattle.std.proofs.Math.Pow.{pow_mono}
 use Rattle.std.proofs.Common.{pow-add}
-use Rattle.tetra_name.proofs.Directions.{below_six}
 use Rattle.tetra_name.proofs.NamesLaw.{axes_within}
 use Rattle.tetra_name.proofs.Rooms.{in_range}
-use Rattle.tetra_name.proofs.OneName.{get_member}
 use Rattle.tetra_name.proofs.ChildLaw.{Child}
 use Rattle.tetra_name.proofs.Children.{cube_children, face_children, edge_children}
-use Rattle.tetra_name.proofs.ChildName.{inside_of_closed, level_of_name, child_0_in, child_1_in, name_of_closed}
+use Rattle.tetra_name.proofs.ChildName.{inside_of_closed, child_0_in, child_1_in, name_of_closed}
 
 -- both children, with their centres
 pub record Both (j N o : ℕ) (T : Tetrahedron) (u : Point) (q : ℕ × ℕ) : Type 0 where

@@ -269,7 +269,7 @@ pub record Child (h N o : ℕ) (S : Tetrahedron) (u : Point) (q : ℕ × ℕ) : 
 pub along_cong : (w : Order) (p q r p' q' r' : ℕ) → p ≡ p' → q ≡ q' → r ≡ r' → along w p q r ≡ along w p' q' r'
 along_cong w p q r p' q' r' e f g = cc
 
-along-turned : (w : Order) (p q r : ℕ) → along (turned w) p q r ≡ along w r p q
+pub along-turned : (w : Order) (p q r : ℕ) → along (turned w) p q r ≡ along w r p q
 along-turned xyz p q r = refl
 along-turned xzy p q r = refl
 along-turned yxz p q r = refl
@@ -277,7 +277,7 @@ along-turned yzx p q r = refl
 along-turned zxy p q r = refl
 along-turned zyx p q r = refl
 
-along-swapped : (w : Order) (p q r : ℕ) → along (swapped w) p q r ≡ along w q p r
+pub along-swapped : (w : Order) (p q r : ℕ) → along (swapped w) p q r ≡ along w q p r
 along-swapped xyz p q r = refl
 along-swapped xzy p q r = refl
 along-swapped yxz p q r = refl
@@ -327,7 +327,7 @@ turned-second zxy false = refl
 turned-second zyx true = refl
 turned-second zyx false = refl
 
-swapped-first : (w : Order) (b : Bool) → first (swapped w) b ≡ second w b
+pub swapped-first : (w : Order) (b : Bool) → first (swapped w) b ≡ second w b
 swapped-first xyz true = refl
 swapped-first xyz false = refl
 swapped-first xzy true = refl
@@ -341,7 +341,7 @@ swapped-first zxy false = refl
 swapped-first zyx true = refl
 swapped-first zyx false = refl
 
-swapped-second : (w : Order) (b : Bool) → second (swapped w) b ≡ first w b
+pub swapped-second : (w : Order) (b : Bool) → second (swapped w) b ≡ first w b
 swapped-second xyz true = refl
 swapped-second xyz false = refl
 swapped-second xzy true = refl
@@ -355,7 +355,7 @@ swapped-second zxy false = refl
 swapped-second zyx true = refl
 swapped-second zyx false = refl
 
-swapped-third : (w : Order) (b : Bool) → third (swapped w) b ≡ third w b
+pub swapped-third : (w : Order) (b : Bool) → third (swapped w) b ≡ third w b
 swapped-third xyz true = refl
 swapped-third xyz false = refl
 swapped-third xzy true = refl

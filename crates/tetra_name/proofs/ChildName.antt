@@ -14,7 +14,6 @@ use Rattle.tetra_name.specs.Places.{InBox}
 use Rattle.tetra_name.specs.declared.shape.Tet.{Tet}
 use Rattle.tetra_name.specs.Names.{point_of, power_of, tetrahedron_of}
 use Rattle.tetra_name.specs.Steps.{is_member, long_axes, pairs, member_at, members_closed, slot_at}
-
 use Rattle.tetra_name.proofs.Rounds.{child_in_0, child_in_1}
 use Rattle.tetra_name.proofs.MembersLaw.{unit_centre, scale_cancel}
 use Rattle.tetra_name.proofs.Units.{unit_of_level}

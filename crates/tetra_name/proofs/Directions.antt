@@ -4,9 +4,10 @@ use Rattle.std.specs.Prelude.{nat_lt}
 use Rattle.std.specs.List.{AllByRecursion, list_all}
 use Rattle.std.proofs.lemmas.Bool.{cases_order, and_parts, ltb-true}
 use Rattle.tpz_base.specs.declared.shape.Point.{Point}
+use Rattle.tpz_base.specs.Points.{point_lt}
 use Rattle.tpz_base.proofs.CutLaw.{Member}
 use Rattle.tpz_base.proofs.AxisPaths.{Order, xyz, xzy, yxz, yzx, zxy, zyx, along}
-use Rattle.tetra_name.specs.Steps.{moved, coordinate, is_forwards, start, finish, start_point, finish_point, long_axes, pair_lt, pairs}
+use Rattle.tetra_name.specs.Steps.{moved, coordinate, is_forwards, start, finish, start_point, finish_point, half_offsets, long_axes, pair_lt, pairs, step_directions}
 use Rattle.tetra_name.proofs.Sorting.{Below, Strict}
 
 -- the direction along the first axis of the order
@@ -399,6 +400,77 @@ tested below (x ∷ xs) h =
 pub pairs_sorted : Strict (λ q r. pair_lt q r ≡ true) pairs
 unfolding pairs strict_test
 pairs_sorted = tested pair_lt pairs refl
+
+pub steps_sorted : Strict (λ d e. nat_lt e d ≡ true) step_directions
+unfolding step_directions strict_test
+steps_sorted = tested (λ d e. nat_lt e d) step_directions refl
+
+pub offsets_sorted : Strict (λ p q. point_lt p q ≡ true) half_offsets
+unfolding half_offsets strict_test
+offsets_sorted = tested point_lt half_offsets refl
+
+steps_in_six : list_all (λ d. nat_lt d 6) step_directions ≡ true
+unfolding step_directions
+steps_in_six = refl
+
+pub step_below_six : (d : ℕ) → Member step_directions d → d < 6
+step_below_six d m = ltb-true d 6 (all_true (λ e. nat_lt e 6) step_directions steps_in_six d m)
+
+pub step_member : (d : ℕ) → d < 6 → Member step_directions d
+unfolding step_directions
+step_member zero h = inr (inr (inr (inr (inr (inl refl)))))
+step_member (suc zero) h = inr (inr (inr (inr (inl refl))))
+step_member (suc (suc zero)) h = inr (inr (inr (inl refl)))
+step_member (suc (suc (suc zero))) h = inr (inr (inl refl))
+step_member (suc (suc (suc (suc zero)))) h = inr (inl refl)
+step_member (suc (suc (suc (suc (suc zero))))) h = inl refl
+step_member (suc (suc (suc (suc (suc (suc d)))))) h = absurd (omega (arith, h))
+
+-- every direction is the first of an order
+pub record ByFirst (d : ℕ) : Type 0 where
+  pub w : Order
+  pub b : Bool
+  pub is : d ≡ first w b
+
+pub by_first : (d : ℕ) → d < 6 → ByFirst d
+by_first zero h = record { w = xyz; b = true; is = refl }
+by_first (suc zero) h = record { w = yxz; b = true; is = refl }
+by_first (suc (suc zero)) h = record { w = zxy; b = true; is = refl }
+by_first (suc (suc (suc zero))) h = record { w = zxy; b = false; is = refl }
+by_first (suc (suc (suc (suc zero)))) h = record { w = yxz; b = false; is = refl }
+by_first (suc (suc (suc (suc (suc zero))))) h = record { w = xyz; b = false; is = refl }
+by_first (suc (suc (suc (suc (suc (suc d)))))) h = absurd (omega (arith, h))
+
+-- the order with the last two axes exchanged
+abbrev pub other : Order → Order
+other xyz = xzy
+other xzy = xyz
+other yxz = yzx
+other yzx = yxz
+other zxy = zyx
+other zyx = zxy
+
+pub first-other : (w : Order) (b : Bool) → first (other w) b ≡ first w b
+first-other xyz true = refl
+first-other xyz false = refl
+first-other xzy true = refl
+first-other xzy false = refl
+first-other yxz true = refl
+first-other yxz false = refl
+first-other yzx true = refl
+first-other yzx false = refl
+first-other zxy true = refl
+first-other zxy false = refl
+first-other zyx true = refl
+first-other zyx false = refl
+
+pub along-other : (w : Order) (p q r : ℕ) → along (other w) p r q ≡ along w p q r
+along-other xyz p q r = refl
+along-other xzy p q r = refl
+along-other yxz p q r = refl
+along-other yzx p q r = refl
+along-other zxy p q r = refl
+along-other zyx p q r = refl
 
 -- the directions of a pair are below six
 abbrev pub in_six : ℕ × ℕ → Bool

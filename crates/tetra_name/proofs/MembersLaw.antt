@@ -12,7 +12,7 @@ use Rattle.tpz_base.proofs.Distinct.{at_its_level, tetrahedron_cong}
 use Rattle.tpz_base.proofs.Levels.{odd, Multiple, IsCentreOf, one_level}
 use Rattle.tpz_base.proofs.Members.{member-filter, member_named, named_member, level_within, centre_of_level}
 use Rattle.tpz_base.proofs.PointLemmas.{point_cong}
-use Rattle.tetra_name.specs.Places.{InBox, IsUnit}
+use Rattle.tetra_name.specs.Places.{IsUnit}
 use Rattle.tetra_name.specs.Steps.{start, finish, start_point, finish_point, is_member, long_axes, pairs, cube_corners, face_corners, edge_corners, member_at, members_closed}
 use Rattle.tetra_name.proofs.Flags.{spot, cube_list, face_list, edge_list, CubeFlag, FaceFlag, EdgeFlag, big_sum, middle, twice, half_sum}
 use Rattle.tetra_name.proofs.Rounds.{Made, cubes, faces, edges, made_cubes, made_faces, made_edges, even_side}
@@ -58,7 +58,7 @@ pub edge_centre : (h : ℕ) (u : Point) (q : ℕ × ℕ) (T : Tetrahedron) → l
 unfolding edge_corners
 edge_centre h u q T o n e = diamond_at_2 T _ _ _ _ n (e ∙ ap (map (point_scale h)) (edge_kind u q o)) ∙ midway h u
 
-cancelled : (s x y : ℕ) → 0 < s → s * x ≡ s * y → x ≡ y
+pub cancelled : (s x y : ℕ) → 0 < s → s * x ≡ s * y → x ≡ y
 cancelled s x y pos e = sym (mul-div_cancel_left x pos) ∙ ap (λ n. n / s) e ∙ mul-div_cancel_left y pos
 
 pub scale_cancel : (h : ℕ) → 0 < h → (u v : Point) → point_scale h u ≡ point_scale h v → u ≡ v

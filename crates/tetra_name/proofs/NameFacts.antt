@@ -1,15 +1,13 @@
 -- What a name says of its level, and what the name of a child or a parent says of the other.
-use Rattle.std.proofs.Common.{◌≡◌, ℕ, zero, suc, ◌<◌, ◌≤◌, sym, ◌∙◌, ap, subst, refl, arith, true≢false}
+use Rattle.std.proofs.Common.{◌≡◌, ◌<◌, ◌↔◌, ℕ, zero, suc, List, [], ◌∷◌, length, sym, ◌∙◌, ap, refl, arith, true≢false}
 use Rattle.std.specs.Prelude.{Option, Some, None, IsSome, slice_get}
-use Rattle.std.specs.Option.{option_map}
-use Rattle.tpz_base.specs.declared.shape.Point.{Point}
-use Rattle.tpz_base.specs.Tetrahedra.{Tetrahedron, child_0, child_1, members, descendants}
+use Rattle.tpz_base.specs.Tetrahedra.{Tetrahedron, child_0, child_1, members}
 use Rattle.tpz_base.specs.Diamonds.{level_of}
-use Rattle.tpz_base.proofs.CutLaw.{Member}
 use Rattle.tpz_base.proofs.Members.{member_named}
 use Rattle.tpz_base.proofs.Diamonds.{level_of-at}
+use Rattle.tetra_name.specs.declared.shape.Half.{Half}
 use Rattle.tetra_name.specs.declared.shape.Tet.{Tet}
-use Rattle.tetra_name.specs.Names.{child_of, point_of, tetrahedron_of, IsName}
+use Rattle.tetra_name.specs.Names.{child_of, count_of, point_of, tetrahedron_of, IsName}
 use Rattle.tetra_name.proofs.OneName.{get_member}
 
 pub some_of : {X : Type 0} (o : Option X) → IsSome o → (x : X) × (o ≡ Some x)
@@ -52,3 +50,18 @@ is_child L which t r name e =
     let s = some_of (tetrahedron_of L t) name in
     let is : tetrahedron_of L r ≡ Some (child_at which s.0) = e ∙ ap (child_of which) s.1 ∙ child_of-some which s.0 in
     record { name = some_is (tetrahedron_of L r) (child_at which s.0) is; level = name_level L r (child_at which s.0) is ∙ child_at-level which s.0 ∙ ap suc (sym (name_level L t s.0 s.1)) }
+
+within_some : {X : Type 0} (xs : List X) (i : ℕ) → i < length xs → IsSome (slice_get xs i)
+within_some [] i lt = absurd (omega (arith, lt))
+within_some (x ∷ xs) zero lt = refl
+within_some (x ∷ xs) (suc i) lt = within_some xs i (omega (arith, lt))
+
+some_within : {X : Type 0} (xs : List X) (i : ℕ) → IsSome (slice_get xs i) → i < length xs
+some_within [] i h = absurd (true≢false (sym h))
+some_within (x ∷ xs) zero h = omega arith
+some_within (x ∷ xs) (suc i) h = let lt = some_within xs i h in omega (arith, lt)
+
+-- the slots of a centre are counted from 0
+pub slots_of : (L : ℕ) (c : Half) (n : ℕ) → n ≡ count_of L (point_of c) → (i : ℕ) → i < n ↔ IsName L (record { centre = c; slot = i })
+unfolding IsName count_of tetrahedron_of
+slots_of L c n e i = (λ lt. within_some (members L (point_of c)) i (omega (arith, lt, e)), λ h. (let lt = some_within (members L (point_of c)) i h in omega (arith, lt, e)))

@@ -46,11 +46,11 @@ power_is L c most U = ap power_of U.is ∙ power_scaled U.j U.u (omega (arith, m
 pub members_of : (L : ℕ) (c : Point) (U : UnitOf L c) → members L c ≡ members_closed U.n (2 ^ U.j) (2 ^ suc U.k) U.u
 members_of L c U = ap (members L) U.is ∙ members_are L U.k U.j U.n U.u U.unit
 
-first_member : (xs : List Tetrahedron) → 0 < length xs → (T : Tetrahedron) × Member xs T
+pub first_member : (xs : List Tetrahedron) → 0 < length xs → (T : Tetrahedron) × Member xs T
 first_member [] h = absurd (omega (arith, h))
 first_member (x ∷ xs) h = (x, inl refl)
 
-some_member : (xs : List Tetrahedron) (T : Tetrahedron) → Member xs T → 0 < length xs
+pub some_member : (xs : List Tetrahedron) (T : Tetrahedron) → Member xs T → 0 < length xs
 some_member [] T m = absurd m
 some_member (x ∷ xs) T m = omega arith
 

@@ -1,5 +1,5 @@
 -- The parent of every member below the roots, in closed form.
-use Rattle.std.proofs.Common.{◌≡◌, ℕ, suc, ◌+◌, ◌-◌, ◌*◌, ◌/◌, ◌%◌, ◌≤◌, ◌<◌, ◌⊎◌, Bool, true, false, not, cond, refl, sym, ◌∙◌, ap, ap₂, subst, inl, inr, arith, true≢false}
+use Rattle.std.proofs.Common.{◌≡◌, ℕ, ◌*◌, ◌/◌, ◌%◌, ◌≤◌, ◌<◌, ◌⊎◌, Bool, true, false, not, cond, refl, sym, ◌∙◌, ap, subst, inl, inr, arith}
 use Rattle.std.specs.Prelude.{◌==◌}
 use Rattle.std.proofs.lemmas.Bool.{lt-ltb, ltb-true}
 use Rattle.tpz_base.specs.declared.shape.Point.{Point}
@@ -13,7 +13,7 @@ use Rattle.tetra_name.proofs.Directions.{first, second, third, shifted, moved-fi
 use Rattle.tetra_name.proofs.Closed.{way, start_up, start_down, finish_up, finish_down, shift_start, allows_long, member_from}
 use Rattle.tetra_name.proofs.Units.{along-box, parity}
 use Rattle.tetra_name.proofs.ChildLaw.{opposite-first, opposite-second, opposite-third, turned-first, turned-second, turned-third, rest-first_second, rest-first_third, rest-second_third, shift_start_half, shift_finish_half, odd_one, may_back, along_cong}
-use Rattle.tetra_name.proofs.Children.{both, pair_3_0, pair_3_1, pair_2_0, pair_2_1, pair_1_0, pair_1_1, point_more_0, point_more_1, point_1_0, point_1_1, three_steps, CubeParts, FaceParts, EdgeParts, cube_parts, face_parts, edge_parts}
+use Rattle.tetra_name.proofs.Children.{both, pair_3_0, pair_3_1, pair_2_0, pair_2_1, pair_1_0, pair_1_1, point_more_0, point_more_1, point_1_0, point_1_1, three_steps, cube_parts, face_parts, edge_parts}
 
 -- v and p are the parent of u and q, which is its child of this number; M is the side of the cube in the parent's units
 pub record ParentIs (M o which : ℕ) (u : Point) (q : ℕ × ℕ) (v : Point) (p : ℕ × ℕ) : Type 0 where
@@ -59,15 +59,15 @@ module _ (u : Point) (q : ℕ × ℕ) where
   unfolding parent_pair
   above_1_1 e f = rw (e, f) refl
 
-  centre_3 : long_axes u ≡ 3 → parent_point u q ≡ half_point (moved 2 q.0 (start_point u))
+  pub centre_3 : long_axes u ≡ 3 → parent_point u q ≡ half_point (moved 2 q.0 (start_point u))
   unfolding parent_point
   centre_3 e = rw e refl
 
-  centre_2 : long_axes u ≡ 2 → parent_point u q ≡ moved 1 q.1 u
+  pub centre_2 : long_axes u ≡ 2 → parent_point u q ≡ moved 1 q.1 u
   unfolding parent_point
   centre_2 e = rw e refl
 
-  centre_1 : long_axes u ≡ 1 → parent_point u q ≡ moved 1 q.0 u
+  pub centre_1 : long_axes u ≡ 1 → parent_point u q ≡ moved 1 q.0 u
   unfolding parent_point
   centre_1 e = rw e refl
 
@@ -301,11 +301,11 @@ by_eight : (a : ℕ) → a % 4 ≡ 0 → (a % 8 ≡ 0) ⊎ (a % 8 ≡ 4)
 by_eight a e = elim (parity (a / 4)) [ inl h ↦ inl (omega (arith, e, h)) | inr h ↦ inr (omega (arith, e, h)) ]
 
 -- the ends of a long axis in units of twice the length
-start_four : (b : Bool) (m : ℕ) → m % 4 ≡ way b → start m % 4 ≡ 0
+pub start_four : (b : Bool) (m : ℕ) → m % 4 ≡ way b → start m % 4 ≡ 0
 start_four true m e = rw (start_up m e) (omega (arith, e))
 start_four false m e = rw (start_down m e) (omega (arith, e))
 
-finish_two : (b : Bool) (m : ℕ) → m % 4 ≡ way b → finish m % 4 ≡ 2
+pub finish_two : (b : Bool) (m : ℕ) → m % 4 ≡ way b → finish m % 4 ≡ 2
 finish_two true m e = rw (finish_up m e) (omega (arith, e))
 finish_two false m e = rw (finish_down m e) (omega (arith, e))
 

@@ -1,6 +1,6 @@
 -- What the centre and the pair of directions of a name say of the tetrahedron.
-use Rattle.std.proofs.Common.{◌≡◌, ℕ, zero, suc, ◌+◌, ◌-◌, ◌*◌, ◌%◌, ◌^◌, ◌≤◌, ◌<◌, List, [], ◌∷◌, map, length, refl, sym, ◌∙◌, ap, subst, arith, inl, inr, true, true≢false, pow-add}
-use Rattle.std.specs.Prelude.{filter, slice_get, Option, Some, None, IsSome, is_some}
+use Rattle.std.proofs.Common.{◌≡◌, ℕ, zero, suc, ◌+◌, ◌-◌, ◌*◌, ◌%◌, ◌^◌, ◌≤◌, ◌<◌, [], map, length, refl, sym, ◌∙◌, ap, subst, arith, inl, inr, true, true≢false, pow-add}
+use Rattle.std.specs.Prelude.{filter, slice_get, Option, Some, None, IsSome}
 use Rattle.std.specs.Option.{option_map, option_map_or}
 use Rattle.std.specs.List.{AllByRecursion}
 use Rattle.std.proofs.lemmas.Option.{slice_get-map, slice_get_within}
@@ -9,7 +9,7 @@ use Rattle.std.proofs.Math.Pow.{pow_mono}
 use Rattle.std.proofs.lemmas.Bool.{cases_order}
 use Rattle.tpz_base.specs.declared.shape.Point.{Point}
 use Rattle.tpz_base.specs.Points.{point_scale}
-use Rattle.tpz_base.specs.Tetrahedra.{Tetrahedron, members, at_level, diamond}
+use Rattle.tpz_base.specs.Tetrahedra.{Tetrahedron, members, at_level}
 use Rattle.tpz_base.specs.Diamonds.{level_of}
 use Rattle.tpz_base.proofs.CutLaw.{Member}
 use Rattle.tpz_base.proofs.Distinct.{at_its_level}

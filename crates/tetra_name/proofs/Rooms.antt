@@ -1,5 +1,5 @@
 -- The corners of a member lie in the cube.
-use Rattle.std.proofs.Common.{◌≡◌, ℕ, zero, suc, ◌+◌, ◌*◌, ◌%◌, ◌^◌, ◌≤◌, ◌<◌, ◌⊎◌, Bool, true, false, List, [], ◌∷◌, map, sym, ◌∙◌, subst, inl, inr, arith, true≢false}
+use Rattle.std.proofs.Common.{◌≡◌, ℕ, zero, suc, ◌*◌, ◌%◌, ◌^◌, ◌≤◌, ◌<◌, true, List, [], ◌∷◌, map, sym, subst, arith}
 use Rattle.std.specs.List.{AllByRecursion}
 use Rattle.tpz_base.specs.declared.shape.Point.{Point}
 use Rattle.tpz_base.specs.Points.{point_scale}
@@ -8,10 +8,8 @@ use Rattle.tpz_base.proofs.CutLaw.{Member}
 use Rattle.tetra_name.specs.Places.{InBox}
 use Rattle.tetra_name.specs.Steps.{is_member, long_axes, pairs, corners_at, IsScalable}
 use Rattle.tetra_name.proofs.Flags.{spot, cube_list, face_list, edge_list, CubeFlag, FaceFlag, EdgeFlag}
-use Rattle.tetra_name.proofs.Directions.{below_six}
-use Rattle.tetra_name.proofs.Closed.{way, ways, start_up, start_down, start_flat, Corners, cube_found, face_found, edge_found}
-
-use Rattle.tetra_name.proofs.Units.{parity, along-box, big_middle}
+use Rattle.tetra_name.proofs.Closed.{Corners, cube_found, face_found, edge_found}
+use Rattle.tetra_name.proofs.Units.{along-box, big_middle}
 
 -- the corners lie in the cube
 box : (N : ℕ) (w : Order) (p q r : ℕ) → p ≤ N → q ≤ N → r ≤ N → InBox N (spot 1 w p q r)

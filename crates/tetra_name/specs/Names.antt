@@ -1,11 +1,11 @@
 -- What names of tetrahedra and centres stand for.
-use Rattle.std.specs.Prelude.{ℕ, zero, suc, ◌/◌, ◌%◌, ◌^◌, ◌≡◌, ◌<◌, ◌≤◌, min, Option, List, [], length, IsSome}
+use Rattle.std.specs.Prelude.{ℕ, zero, suc, ◌/◌, ◌%◌, ◌^◌, ◌≡◌, ◌<◌, ◌≤◌, min, Option, Some, List, [], length, Contains, IsSome}
 use Rattle.std.specs.Int.{w32, trailing_zeros}
 use Rattle.std.specs.Option.{option_map, option_map_or}
 use Rattle.std.specs.List.{slice_get}
 use Rattle.tpz_base.specs.declared.shape.Point.{Point}
 use Rattle.tpz_base.specs.Points.{point}
-use Rattle.tpz_base.specs.Tetrahedra.{Tetrahedron, child_0, child_1, members, roots}
+use Rattle.tpz_base.specs.Tetrahedra.{Tetrahedron, child_0, child_1, descendants, members, roots}
 use Rattle.tetra_name.specs.declared.shape.Half.{Half}
 use Rattle.tetra_name.specs.declared.shape.Tet.{Tet}
 
@@ -61,3 +61,17 @@ over j c = point (c.x / 2 ^ j) (c.y / 2 ^ j) (c.z / 2 ^ j)
 unfoldable pub child_of : ℕ → Option Tetrahedron → Option Tetrahedron
 child_of zero o = option_map child_0 o
 child_of (suc w) o = option_map child_1 o
+
+-- no other name has the same corners
+unfoldable pub HasOwnCorners : ℕ → Tet → Type 0
+HasOwnCorners L t = (s : Tet) → IsName L s → corners_of L s ≡ corners_of L t → s ≡ t
+
+-- the numbers of a name fit its fields
+abbrev pub IsInRange : Tet → Type 0
+IsInRange t = (t.centre.x < 2 ^ 32) × (t.centre.y < 2 ^ 32) × (t.centre.z < 2 ^ 32) × (t.slot < 2 ^ 8)
+
+-- each name stands for a descendant of the roots, and each descendant has one name
+pub record NamesEach (L : ℕ) : Type 0 where
+  pub stands : (t : Tet) (T : Tetrahedron) → tetrahedron_of L t ≡ Some T → Contains (descendants L) T
+  pub named : (T : Tetrahedron) → Contains (descendants L) T → (t : Tet) × IsInRange t × (tetrahedron_of L t ≡ Some T)
+  pub once : (s t : Tet) → IsName L s → tetrahedron_of L s ≡ tetrahedron_of L t → s ≡ t

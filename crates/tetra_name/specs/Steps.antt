@@ -1,5 +1,5 @@
 -- The members of a diamond in closed form: which steps they take. Points are counted in units here: a diamond's centre has an odd coordinate on its long axes and an even one on its flat axes.
-use Rattle.std.specs.Prelude.{ℕ, zero, suc, ◌≡◌, ◌≤◌, ◌<◌, ◌^◌, true, false, ◌+◌, ◌-◌, ◌*◌, ◌/◌, ◌%◌, min, Bool, ◌&&◌, nat_lt, ◌==◌, cond, List, [], ◌∷◌, map, filter, length}
+use Rattle.std.specs.Prelude.{ℕ, zero, suc, ◌<◌, ◌^◌, ◌+◌, ◌-◌, ◌*◌, ◌/◌, ◌%◌, min, Bool, ◌&&◌, nat_lt, ◌==◌, cond, List, [], ◌∷◌, map, filter, length}
 use Rattle.tpz_base.specs.declared.shape.Point.{Point}
 use Rattle.tpz_base.specs.Points.{point, point_scale}
 use Rattle.tpz_base.specs.Tetrahedra.{Tetrahedron}

@@ -1,7 +1,7 @@
 // From a tetrahedron to its parent.
 ghost use Rattle.std.specs.Prelude.{◌≡◌, ◌↔◌, ◌<◌, suc, IsNone, IfSome};
 ghost use Rattle.tpz_base.specs.Diamonds.{level_of};
-ghost use Rattle.tetra_name.specs.Names.{child_of, point_of, tetrahedron_of, IsBound, IsName, IsWithin};
+ghost use Rattle.tetra_name.specs.Names.{child_of, point_of, tetrahedron_of, IsBound, IsCentre, IsName, IsWithin};
 ghost use Rattle.tetra_name.specs.Steps.{parent_pair, parent_point, parent_which};
 
 use crate::direction::{coordinate, long_axes, moved, rest_of, start_point};
@@ -86,6 +86,7 @@ pub fn parent(t: Tet, l: u8) -> Option<(Tet, u8)>
     requires name { IsName l t }
     ensures root { IsNone result ↔ (level_of l (point_of t.centre) ≡ 0) }
     ensures name { IfSome result (λ r. IsName l r.0) }
+    ensures centre { IfSome result (λ r. IsCentre l (point_of r.0.centre)) }
     ensures which { IfSome result (λ r. r.1 < 2) }
     ensures child { IfSome result (λ r. child_of r.1 (tetrahedron_of l r.0) ≡ tetrahedron_of l t) }
     ensures level { IfSome result (λ r. level_of l (point_of t.centre) ≡ suc (level_of l (point_of r.0.centre))) }

@@ -1,7 +1,7 @@
 // From a tetrahedron to its children.
 ghost use Rattle.std.specs.Prelude.{◌≡◌, ◌<◌, ◌*◌, suc};
 ghost use Rattle.tpz_base.specs.Diamonds.{level_of};
-ghost use Rattle.tetra_name.specs.Names.{child_of, point_of, tetrahedron_of, IsBound, IsName, IsWithin};
+ghost use Rattle.tetra_name.specs.Names.{child_of, point_of, tetrahedron_of, IsBound, IsCentre, IsName, IsWithin};
 ghost use Rattle.tetra_name.specs.Steps.{child_pair, child_point};
 
 use crate::direction::{long_axes, moved, rest_of};
@@ -79,6 +79,7 @@ pub fn child(t: Tet, which: u8, l: u8) -> Tet
     requires level { level_of l (point_of t.centre) < 3 * l }
     ensures child { tetrahedron_of l result ≡ child_of which (tetrahedron_of l t) }
     ensures name { IsName l result }
+    ensures centre { IsCentre l (point_of result.centre) }
     ensures level { level_of l (point_of result.centre) ≡ suc (level_of l (point_of t.centre)) }
 {
     let p = place_of(t, l);

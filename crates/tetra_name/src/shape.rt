@@ -4,7 +4,6 @@ ghost use Rattle.tpz_base.specs.Points.{point_scale};
 ghost use Rattle.tetra_name.specs.Names.{point_of, IsWhole};
 
 use std::marker::Model;
-
 use tpz_base::Point;
 
 /// A point in half-units: each coordinate is twice that in whole scaled units. Ordered by x, then y, then z.

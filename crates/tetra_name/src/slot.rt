@@ -1,5 +1,5 @@
 // The members of a diamond as pairs of directions, and their slots.
-ghost use Rattle.std.specs.Prelude.{◌≡◌, ◌&&◌, ◌<◌, ◌≤◌, ◌^◌, All, count_by, filter, slice_get, Some, IsSome};
+ghost use Rattle.std.specs.Prelude.{ℕ, ◌≡◌, ◌↔◌, ◌&&◌, ◌<◌, ◌≤◌, ◌^◌, All, count_by, filter, slice_get, Some, IsSome};
 ghost use Rattle.tpz_base.specs.Points.{point_scale};
 ghost use Rattle.tetra_name.specs.Names.{count_of, point_of, IsBound, IsCentre, IsName, IsWithin};
 ghost use Rattle.tetra_name.specs.Places.{IsPlace};
@@ -153,7 +153,8 @@ pub(crate) fn name_of(p: Place) -> Tet
 pub fn member_count(c: Half, l: u8) -> u8
     requires bound { IsBound l }
     requires centre { IsCentre l (point_of c) }
-    ensures { result ≡ count_of l (point_of c) }
+    ensures count { result ≡ count_of l (point_of c) }
+    ensures slots { (i : ℕ) → (i < result ↔ IsName l (record { centre = c; slot = i })) }
 {
     let v = scale_of(c, l);
     count_members(v.point, v.side) as u8

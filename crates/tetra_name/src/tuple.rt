@@ -1,9 +1,10 @@
 // The corners of a named tetrahedron, and the names of the roots.
-ghost use Rattle.std.specs.Prelude.{◌≡◌, ◌<◌, ◌^◌, map};
+ghost use Rattle.std.specs.Prelude.{◌≡◌, ◌<◌, ◌^◌, map, IfSome};
 ghost use Rattle.std.specs.List.{AllByRecursion};
 ghost use Rattle.tpz_base.specs.Points.{point_scale};
 ghost use Rattle.tpz_base.specs.Diamonds.{level_of};
-ghost use Rattle.tetra_name.specs.Names.{corners_of, point_of, root_at, tetrahedron_of, IsBound, IsName, IsWithin};
+ghost use Rattle.tpz_base.specs.Tetrahedra.{BisectsLongest};
+ghost use Rattle.tetra_name.specs.Names.{corners_of, point_of, root_at, tetrahedron_of, HasOwnCorners, IsBound, IsCentre, IsName, IsWithin, NamesEach};
 ghost use Rattle.tetra_name.specs.Steps.{corners_at, IsScalable};
 
 use crate::direction::{finish_point, long_axes, moved, scaled, start_point};
@@ -55,12 +56,15 @@ fn corners_at(u: Half, q: (u8, u8), j: u32) -> [Half; 4]
 }
 
 /// The root at a slot. The six roots have the level 0, and are counted by the order of their steps along the axes: xyz, xzy, yxz, yzx, zxy, zyx.
+/// From the roots `child` leads to every tetrahedron, and each of them has exactly one name.
 pub fn root(slot: u8, l: u8) -> Tet
     requires bound { IsBound l }
     requires slot { slot < 6 }
     ensures root { tetrahedron_of l result ≡ root_at l slot }
     ensures name { IsName l result }
+    ensures centre { IsCentre l (point_of result.centre) }
     ensures level { level_of l (point_of result.centre) ≡ 0 }
+    ensures names { NamesEach l }
 {
     let half: u32 = 1 << l;
     Tet {
@@ -73,11 +77,14 @@ pub fn root(slot: u8, l: u8) -> Tet
     }
 }
 
-/// The corners x0 to x3 in half-units, in the order of the bisection.
+/// The corners x0 to x3 in half-units, in the order of the bisection. The edge from x0 to the corner that the level tells, x3, x2 or x1 by turns,
+/// is bisected next. It is longer than the five others. No other name has these corners.
 pub fn corners(t: Tet, l: u8) -> [Half; 4]
     requires bound { IsBound l }
     requires name { IsName l t }
-    ensures { map point_of result ≡ corners_of l t }
+    ensures corners { map point_of result ≡ corners_of l t }
+    ensures own { HasOwnCorners l t }
+    ensures longest { IfSome (tetrahedron_of l t) BisectsLongest }
 {
     let p = place_of(t, l);
     corners_at(p.point, p.pair, p.power)

@@ -65,4 +65,3 @@ fn main(rt: HostRuntime) -> ExitCode {
     }
     ExitCode::from(status.code())
 }
-

@@ -1,5 +1,5 @@
 -- A mesh has no more vertices than there are points that its corners are among.
-use Rattle.std.proofs.Common.{◌≡◌, ℕ, ◌≤◌, Bool, true, not, List, [], ◌∷◌, length, sym, ◌∙◌, true≢false, inl, inr}
+use Rattle.std.proofs.Common.{◌≡◌, ◌≤◌, Bool, true, not, List, [], ◌∷◌, length, sym, ◌∙◌, true≢false, inl, inr}
 use Rattle.std.specs.Prelude.{filter, flat_map}
 use Rattle.std.specs.List.{list_all, range_with_len}
 use Rattle.std.proofs.lemmas.Bool.{cases_Bool, not-true}
@@ -30,9 +30,10 @@ no_twice-filter p (x ∷ xs) h =
 
 different_once : (cs : List Point) → NoTwice (different cs)
 different_once [] = tt
-different_once (c ∷ cs) =
-    (λ y m e. true≢false (sym (eq-point_eq y c (sym e)) ∙ not-true (point_eq y c) (member-filter (λ q. not (point_eq q c)) (different cs) y m).1),
-      no_twice-filter (λ q. not (point_eq q c)) (different cs) (different_once cs))
+different_once (c ∷ cs) = (
+  λ y m e. true≢false (sym (eq-point_eq y c (sym e)) ∙ not-true (point_eq y c) (member-filter (λ q. not (point_eq q c)) (different cs) y m).1),
+  no_twice-filter (λ q. not (point_eq q c)) (different cs) (different_once cs),
+)
 
 pub vertices_at_most : (ps : List Point) (M : Mesh) → list_all (has point_eq ps) (corners_of M) ≡ true → length (vertices M) ≤ length ps
 unfolding vertices

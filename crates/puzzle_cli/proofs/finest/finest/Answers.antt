@@ -16,6 +16,6 @@ pub returns-in-Err-OutFault-clause-front : goal.returns-in-Err-OutFault-clause-f
 returns-in-Err-OutFault-clause-front g c = λ bytes told rows faces starts.
     front_as_told c.in-Ok.plain _ _ _ _ rows faces (c.in-Ok.ensures.read bytes told rows faces starts) c.export.ensures.front
 
-pub returns-clause-front : goal.returns-clause-front
-returns-clause-front g c = λ bytes told rows faces starts.
+pub returns-in-Err-Memory-export-clause-front : goal.returns-in-Err-Memory-export-clause-front
+returns-in-Err-Memory-export-clause-front g c = λ bytes told rows faces starts.
     front_as_told c.in-Ok.plain _ _ _ _ rows faces (c.in-Ok.ensures.read bytes told rows faces starts) c.export.ensures.front

@@ -2,6 +2,7 @@ use Rattle.std.proofs.Common.{◌+◌, ◌/◌, ◌^◌, arith, sym, ◌∙◌, 
 use Rattle.tpz_base.specs.Points.{point_scale}
 use Rattle.tetra_name.specs.Names.{point_of}
 use Rattle.tetra_name.specs.Steps.{slot_at, parent_point, IsScalable}
+use Rattle.tetra_name.proofs.PlaceLaw.{centre_of_name}
 use Rattle.tetra_name.proofs.ParentFacts.{IsParent, flat_scales, cube_scales, flat_named, cube_parent, is_root}
 use Rattle.tetra_name.proofs.ascent.parent.Goals as goal
 
@@ -20,7 +21,7 @@ name_of-name-requires-2-clause-scalable c =
 pub returns-then-p-l-clause-root : goal.returns-then-p-l-clause-root
 returns-then-p-l-clause-root c = (
   λ e. is_root c.args.l c.args.t c.place_of-p.result.power c.place_of-p.result.side (point_of c.place_of-p.result.point) c.place_of-p.result.pair c.requires.bound.most c.place_of-p.ensures.place
-  (sym c.long_axes.ensures.axes ∙ c.if-long_axes-ne3.false) c.if-p-l.true,
+      (sym c.long_axes.ensures.axes ∙ c.if-long_axes-ne3.false) c.if-p-l.true,
   λ e. refl,
 )
 
@@ -34,7 +35,7 @@ returns-then-long_axes-ne3 c =
     (c.name_of-name.ensures.centre ∙ ap (point_scale (2 ^ c.place_of-p.result.power)) c.parent_point-point.ensures)
     (c.name_of-name.ensures.slot ∙ ap (λ u. slot_at c.place_of-p.result.side u c.parent_pair-pair.result) c.parent_point-point.ensures
     ∙ ap (slot_at c.place_of-p.result.side (parent_point (point_of c.place_of-p.result.point) c.place_of-p.result.pair)) c.parent_pair-pair.ensures.pair)) in
-    record { root = (λ e. absurd (true≢false e), λ e. absurd (omega (arith, e, F.level))); name = F.name; which = F.few; child = F.child; level = F.level }
+    record { root = (λ e. absurd (true≢false e), λ e. absurd (omega (arith, e, F.level))); name = F.name; centre = centre_of_name c.args.l _ F.name; which = F.few; child = F.child; level = F.level }
 
 pub returns : goal.returns
 returns c =
@@ -45,4 +46,4 @@ returns c =
     (c.name_of-name-2.ensures.centre ∙ ap (point_scale (2 ^ (c.place_of-p.result.power + 1))) c.parent_point-point.ensures)
     (c.name_of-name-2.ensures.slot ∙ ap (λ u. slot_at (c.place_of-p.result.side / 2) u c.parent_pair-pair.result) c.parent_point-point.ensures
     ∙ ap (slot_at (c.place_of-p.result.side / 2) (parent_point (point_of c.place_of-p.result.point) c.place_of-p.result.pair)) c.parent_pair-pair.ensures.pair)) in
-    record { root = (λ e. absurd (true≢false e), λ e. absurd (omega (arith, e, F.level))); name = F.name; which = F.few; child = F.child; level = F.level }
+    record { root = (λ e. absurd (true≢false e), λ e. absurd (omega (arith, e, F.level))); name = F.name; centre = centre_of_name c.args.l _ F.name; which = F.few; child = F.child; level = F.level }

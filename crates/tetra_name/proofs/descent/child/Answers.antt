@@ -2,6 +2,7 @@ use Rattle.std.proofs.Common.{◌-◌, ◌*◌, ◌^◌, arith, sym, ◌∙◌, 
 use Rattle.tpz_base.specs.Points.{point_scale}
 use Rattle.tetra_name.specs.Names.{point_of}
 use Rattle.tetra_name.specs.Steps.{IsScalable, slot_at, child_point}
+use Rattle.tetra_name.proofs.PlaceLaw.{centre_of_name}
 use Rattle.tetra_name.proofs.NameFacts.{is_child}
 use Rattle.tetra_name.proofs.ChildFacts.{within, side_fits, edge_scales, edge_named, scales, named}
 use Rattle.tetra_name.proofs.descent.child.Goals as goal
@@ -34,7 +35,7 @@ returns-then-long_axes-eq1 c =
     (c.name_of.ensures.centre ∙ ap (point_scale (2 ^ (c.place_of-p.result.power - 1))) c.child_point-point.ensures)
     (c.name_of.ensures.slot ∙ ap (λ u. slot_at (2 * c.place_of-p.result.side) u c.child_pair-pair.result) c.child_point-point.ensures ∙ ap (slot_at (2 * c.place_of-p.result.side) (child_point c.args.which (point_of c.place_of-p.result.point) c.place_of-p.result.pair)) c.child_pair-pair.ensures.pair) in
     let k = is_child c.args.l c.args.which c.args.t c.name_of.result c.requires.name same in
-    record { child = same; name = k.name; level = k.level }
+    record { child = same; name = k.name; centre = centre_of_name c.args.l _ k.name; level = k.level }
 
 pub returns-else-long_axes-eq1 : goal.returns-else-long_axes-eq1
 returns-else-long_axes-eq1 c =
@@ -43,4 +44,4 @@ returns-else-long_axes-eq1 c =
     (c.name_of-else-long_axes-eq1.ensures.centre ∙ ap (point_scale (2 ^ c.place_of-p.result.power)) c.child_point-point.ensures)
     (c.name_of-else-long_axes-eq1.ensures.slot ∙ ap (λ u. slot_at c.place_of-p.result.side u c.child_pair-pair.result) c.child_point-point.ensures ∙ ap (slot_at c.place_of-p.result.side (child_point c.args.which (point_of c.place_of-p.result.point) c.place_of-p.result.pair)) c.child_pair-pair.ensures.pair) in
     let k = is_child c.args.l c.args.which c.args.t c.name_of-else-long_axes-eq1.result c.requires.name same in
-    record { child = same; name = k.name; level = k.level }
+    record { child = same; name = k.name; centre = centre_of_name c.args.l _ k.name; level = k.level }
