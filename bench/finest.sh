@@ -6,8 +6,8 @@
 # YARDSTICK is the folder of the plain program, whose build.sh puts it at the path that it is given; or YARDSTICK_BIN is
 # that program, built. PROVED is the proved program; without it ./tpz builds it where need be. SCRATCH is a folder for
 # the mesh and the parts, about 100 MB; without it a temporary one is made, and removed at the end. SIZE is the number
-# of cells along an edge (288 where it isn't given), so there are 12 SIZE^2 triangles; RUNS is how often each program
-# runs (3).
+# of cells along an edge (288 where it isn't given), so there are 12 SIZE^2 triangles; INPUT is a plain mesh to take in
+# place of that surface; RUNS is how often each program runs (3).
 #
 # Both programs run in turn. Printed are the least wall time, the least processor time (user and system) and the
 # greatest peak of memory of each, the ratios, and whether the two parts are the same byte for byte. The exit status is
@@ -47,7 +47,11 @@ if [ -z "$proved" ]; then
 fi
 
 mkdir -p "$scratch/proved" "$scratch/plain"
-awk -v n="$size" -f "$here/bumpy_cube.awk" >"$scratch/proved/input.ply"
+if [ -n "${INPUT:-}" ]; then
+    cp "$INPUT" "$scratch/proved/input.ply"
+else
+    awk -v n="$size" -f "$here/bumpy_cube.awk" >"$scratch/proved/input.ply"
+fi
 cp "$scratch/proved/input.ply" "$scratch/plain/input.ply"
 : >"$scratch/proved.times"
 : >"$scratch/plain.times"
