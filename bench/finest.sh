@@ -41,7 +41,8 @@ if [ -z "$yardstick" ]; then
 fi
 proved=${PROVED:-}
 if [ -z "$proved" ]; then
-    # With no words the program only says how it is used.
+    # With no words the program only says how it is used. A first build takes minutes.
+    echo "finest.sh: building the proved program where need be" >&2
     "$here/../tpz" 2>/dev/null || [ $? -eq 2 ] || stop "the proved program couldn't be built: try ./tpz"
     proved=$here/../crates/tpz/out/tpz
 fi
