@@ -1,5 +1,5 @@
 -- What is written for a mesh, part and note.
-use Rattle.std.proofs.Common.{◌≡◌, ℕ, List, [], ◌∷◌, ◌++◌, length, take, refl, sym, ◌∙◌, ap, ap₂, subst, arith}
+use Rattle.std.proofs.Common.{◌≡◌, ℕ, List, [], ◌∷◌, ◌++◌, length, sym, ◌∙◌, ap, ap₂, subst, arith}
 use Rattle.std.specs.Prelude.{map}
 use Rattle.std.specs.declared.option.Option.{Option}
 use Rattle.std.proofs.lemmas.List.{append-nil}
@@ -9,17 +9,17 @@ use Rattle.tpz_base.specs.declared.shape.Point.{Point}
 use Rattle.tpz_base.specs.Lists.{has}
 use Rattle.tpz_base.specs.Points.{point_eq}
 use Rattle.tpz_base.specs.Meshes.{Mesh}
-use Rattle.tpz_base.specs.Cubes.{Row, low_of, level_bound, shifted}
+use Rattle.tpz_base.specs.Cubes.{Row, level_bound, shifted}
 use Rattle.tpz_base.specs.Roots.{mesh_by_roots}
 use Rattle.tpz_base.specs.Texts.{Bytes, Face, vertices, face_in, text, ply_text}
 use Rattle.tpz_base.proofs.RootMesh.{root_mesh_is}
 use Rattle.tpz_base.proofs.VertexCounts.{vertices_at_most, roots_corners}
 use Rattle.ply_body.specs.declared.plain.Plain.{Plain}
-use Rattle.ply_body.specs.Plain.{mesh_of, dropped_of, IsReadOf, HasFewCorners}
+use Rattle.ply_body.specs.Plain.{mesh_of, IsReadOf, HasFewCorners}
 use Rattle.puzzle_cli.specs.declared.numbering.Numbered.{Numbered}
 use Rattle.puzzle_cli.specs.Finest.{finest_items, finest_note, items_for, items_of}
 use Rattle.puzzle_cli.specs.Numbering.{numbered_mesh, IsNumbering, FewVertices}
-use Rattle.puzzle_cli.specs.Parts.{row_of, face_of, mesh_text}
+use Rattle.puzzle_cli.specs.Parts.{row_of, mesh_text}
 use Rattle.puzzle_cli.proofs.Pieces.{followed_by-nil}
 
 -- the text of a numbering is that of its mesh

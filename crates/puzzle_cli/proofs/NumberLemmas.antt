@@ -1,7 +1,7 @@
 -- Numbers of vertices stay as the mesh grows at its end.
 use Rattle.std.proofs.Common.{◌≡◌, ℕ, ◌+◌, ◌<◌, ◌≤◌, ◌^◌, Bool, true, false, cond, not, ◌&&◌, ◌||◌, List, [], ◌∷◌, ◌++◌, length, refl, sym, ◌∙◌, ap, ap₂, subst, arith, inl, inr, append_assoc, length-append, one-add}
-use Rattle.std.specs.Prelude.{map, filter, flat_map}
-use Rattle.std.specs.List.{list_any, list_all, slice_index_or}
+use Rattle.std.specs.Prelude.{map, filter}
+use Rattle.std.specs.List.{list_any, list_all}
 use Rattle.std.proofs.lemmas.Bool.{cases_Bool, and_parts, and_from}
 use Rattle.std.proofs.lemmas.List.{append-nil, map-append}
 use Rattle.std.proofs.lemmas.List.Elements.{filter-append}
@@ -9,10 +9,10 @@ use Rattle.std.proofs.lemmas.Grind.{flat_map-append}
 use Rattle.indexmap.specs.IndexSet.{insert_key}
 use Rattle.tpz_base.specs.declared.shape.Point.{Point}
 use Rattle.tpz_base.specs.declared.shape.Tri.{Tri}
-use Rattle.tpz_base.specs.Points.{point, point_eq}
+use Rattle.tpz_base.specs.Points.{point_eq}
 use Rattle.tpz_base.specs.Meshes.{Mesh, triangle, corners_of}
 use Rattle.tpz_base.specs.Texts.{Face, different, vertices, number_in, face_in}
-use Rattle.tpz_base.proofs.PointLemmas.{point_eq-true, point_eq_sym, point_eq_refl, eq-point_eq}
+use Rattle.tpz_base.proofs.PointLemmas.{point_eq-true, point_eq_refl}
 use Rattle.puzzle_cli.specs.declared.numbering.Corners.{Corners}
 use Rattle.puzzle_cli.specs.Parts.{face_of}
 use Rattle.puzzle_cli.specs.declared.numbering.Numbered.{Numbered}

@@ -27,7 +27,7 @@ use tpz_io::{Blob, Out, Source};
 /// Runs the command that the words ask for. It always returns.
 ///
 /// `finest` reads a plain mesh from `input`, and writes its triangles root by root as one part of `out`, in the input's
-/// coordinates, and then its note. Script, work and store get no call.
+/// coordinates, and then its note. Script, work and store are left as they were.
 pub fn run<I: Source, C: Source, W: Blob, S: Blob, O: Out>(
     alloc: Global,
     words: &[String],

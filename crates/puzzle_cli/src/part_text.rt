@@ -1,8 +1,9 @@
 // The text of a mesh, written as a part.
-ghost use Rattle.std.specs.Prelude.{◌≡◌, ◌≤◌, ◌+◌, ◌++◌, ◌∷◌, [], length, pos, ◌+ℤ◌, unsigned_abs, OnOk, OnErr, IsErrOf, IsTrue};
+ghost use Rattle.std.specs.Prelude.{◌≡◌, ◌≤◌, ◌+◌, ◌*◌, ◌++◌, ◌∷◌, [], length, pos, ◌+ℤ◌, unsigned_abs, OnOk, OnErr, IsErrOf, IsTrue};
 ghost use Rattle.tpz_io.specs.Causes.{HasCause, Rose};
 ghost use Rattle.tpz_io.specs.Told.{followed_by};
 ghost use Rattle.tpz_base.specs.Cubes.{shifted};
+ghost use Rattle.puzzle_cli.specs.declared.part_buffer.TheConstants.{LINE, ROOM};
 ghost use Rattle.puzzle_cli.specs.declared.part_text.WriteFault.TheVariants.{OutFault, Memory};
 ghost use Rattle.puzzle_cli.specs.Parts.{IsLow, row_at, row_of, face_of, head_text, row_text, face_text, rows_text, faces_text, mesh_text};
 
@@ -36,9 +37,8 @@ impl From<AllocError> for WriteFault {
 }
 
 // Adds the header of a mesh with so many vertices and faces.
-
 fn push_head(buffer: &mut PartBuffer, digits: u8, vertices: usize, faces: usize)
-    requires { length buffer.old + 512 ≤ 65536 }
+    requires { length buffer.old + 4 * LINE ≤ ROOM }
     ensures { buffer.new ≡ buffer.old ++ head_text digits vertices faces }
 {
     buffer.push(b"ply\nformat ascii 1.0\ncomment tpz digits ");
@@ -60,7 +60,7 @@ fn shift(coordinate: u32, low: i64) -> i64
 
 // Adds the line of a row.
 fn push_row(buffer: &mut PartBuffer, x: i64, y: i64, z: i64)
-    requires { length buffer.old + 128 ≤ 65536 }
+    requires { length buffer.old + LINE ≤ ROOM }
     ensures { buffer.new ≡ buffer.old ++ row_text (row_at x y z) }
 {
     buffer.push_signed(x);
@@ -73,7 +73,7 @@ fn push_row(buffer: &mut PartBuffer, x: i64, y: i64, z: i64)
 
 // Adds the line of a vertex, with the least coordinates added.
 fn push_vertex(buffer: &mut PartBuffer, p: Point, low: &[i64; 3])
-    requires room { length buffer.old + 128 ≤ 65536 }
+    requires room { length buffer.old + LINE ≤ ROOM }
     requires near { IsLow low.now }
     ensures { buffer.new ≡ buffer.old ++ row_text (shifted (row_of low.now) p) }
 {
@@ -86,9 +86,8 @@ fn push_vertex(buffer: &mut PartBuffer, p: Point, low: &[i64; 3])
 }
 
 // Adds the line of a triangle.
-
 fn push_face(buffer: &mut PartBuffer, f: Corners)
-    requires { length buffer.old + 128 ≤ 65536 }
+    requires { length buffer.old + LINE ≤ ROOM }
     ensures { buffer.new ≡ buffer.old ++ face_text (face_of f) }
 {
     buffer.push(b"3 ");

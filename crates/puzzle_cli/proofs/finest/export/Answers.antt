@@ -1,7 +1,5 @@
-use Rattle.std.proofs.Common.{◌∙◌, ap, List, length}
-use Rattle.tpz_base.specs.declared.shape.Point.{Point}
+use Rattle.std.proofs.Common.{◌∙◌, ap, length}
 use Rattle.tpz_base.specs.Meshes.{Mesh}
-use Rattle.tpz_base.specs.Roots.{mesh_by_roots}
 use Rattle.puzzle_cli.specs.Finest.{finest_note, items_for}
 use Rattle.puzzle_cli.proofs.Exports.{part_alone, part_and_note, none_yet}
 use Rattle.puzzle_cli.proofs.finest.export.Goals as goal

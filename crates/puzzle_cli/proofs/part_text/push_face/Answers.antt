@@ -1,5 +1,4 @@
-use Rattle.puzzle_cli.specs.Parts.{row_of, face_of}
-use Rattle.tpz_base.specs.Cubes.{shifted}
+use Rattle.puzzle_cli.specs.Parts.{face_of}
 use Rattle.puzzle_cli.proofs.PartLines.{face_pieces}
 use Rattle.puzzle_cli.proofs.part_text.push_face.Goals as goal
 

@@ -1,5 +1,3 @@
-use Rattle.puzzle_cli.specs.Parts.{row_of, face_of}
-use Rattle.tpz_base.specs.Cubes.{shifted}
 use Rattle.puzzle_cli.proofs.PartLines.{head_pieces}
 use Rattle.puzzle_cli.proofs.part_text.push_head.Goals as goal
 

@@ -1,4 +1,4 @@
-use Rattle.std.proofs.Common.{◌∙◌, sym}
+use Rattle.std.proofs.Common.{◌∙◌}
 use Rattle.puzzle_cli.proofs.RootLoops.{none_added}
 use Rattle.puzzle_cli.proofs.numbering.Numbered.add_in_root.Goals as goal
 
