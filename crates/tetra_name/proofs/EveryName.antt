@@ -21,19 +21,8 @@ use Rattle.tetra_name.proofs.Units.{unit_of_member, UnitOf}
 use Rattle.tetra_name.proofs.NameFacts.{some_of}
 use Rattle.tetra_name.proofs.Lengths.{Shape, shape_of, level_by_corners}
 use Rattle.tetra_name.proofs.PlaceLaw.{members_in, fits_of_scale}
+use Rattle.tetra_name.proofs.NameFacts.{contains-member, member-contains}
 use Rattle.tetra_name.proofs.Rooms.{in_range}
-
-contained-member : {X : Type 0} (xs : List X) (x : X) (k : ℕ) → k < length xs → slice_index_or xs k x ≡ x → Member xs x
-contained-member [] x k lt e = absurd (omega (arith, lt))
-contained-member (y ∷ ys) x zero lt e = inl e
-contained-member (y ∷ ys) x (suc k) lt e = inr (contained-member ys x k (omega (arith, lt)) e)
-
-contains-member : {X : Type 0} (xs : List X) (x : X) → Contains xs x → Member xs x
-contains-member xs x h = contained-member xs x h.0 h.1 h.2
-
-member-contains : {X : Type 0} (xs : List X) (x : X) → Member xs x → Contains xs x
-member-contains [] x m = absurd m
-member-contains (y ∷ ys) x m = elim m [ inl e ↦ (0, omega arith, e) | inr k ↦ let r = member-contains ys x k in (suc r.0, omega (arith, r.1), r.2) ]
 
 tet_cong : (s t : Tet) → point_of s.centre ≡ point_of t.centre → s.slot ≡ t.slot → s ≡ t
 tet_cong s t e f = ap₂ (λ (p : Point) (i : ℕ). let r : Tet = record { centre = half_of p; slot = i } in r) e f

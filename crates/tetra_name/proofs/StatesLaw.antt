@@ -12,6 +12,7 @@ use Rattle.tpz_base.proofs.Elements.{at_all}
 use Rattle.tpz_base.proofs.Members.{filter-member}
 use Rattle.tetra_name.specs.Steps.{coordinate, is_forwards, allows, is_allowed, is_member, long_axes, pairs, pair_lt, slot_at}
 use Rattle.tetra_name.specs.States.{one, axis_state, states_of, edge_axes, ways, along_edge, across, third_direction, is_upper, other_before, quick_slot, cube_pairs, cube_pair, face_pair, edge_pair, edge_pair_at, quick_pair, quick_count}
+use Rattle.tetra_name.specs.Names.{IsWithin}
 use Rattle.tetra_name.specs.Places.{InBox}
 
 -- a coordinate of each state in a cube of side 8
@@ -289,3 +290,6 @@ module _ (N : ℕ) (u : Point) (box : InBox N u) (even : N % 2 ≡ 0) (some : 0 
     where
       same_pair : (p r : ℕ × ℕ) → p.0 ≡ r.0 → p.1 ≡ r.1 → p ≡ r
       same_pair p r a b = ap₂ (λ (m n : ℕ). let x : ℕ × ℕ = (m, n) in x) a b
+
+pub box_of : (N : ℕ) (u : Point) → IsWithin N u → InBox N u
+box_of N u h = record { x = h.0; y = h.1; z = h.2 }
