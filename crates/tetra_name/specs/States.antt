@@ -1,5 +1,5 @@
 -- A member's directions and slot from a small state of each axis: 0 and 1 where the bisected edge runs along it, forwards or backwards; 2 where a step either way stays in the cube; 3 where only one forwards does, 4 where only one backwards does.
-use Rattle.std.specs.Prelude.{ℕ, zero, suc, ◌+◌, ◌-◌, ◌*◌, ◌/◌, ◌%◌, min, max, Bool, true, false, ◌==◌, nat_lt, cond, List, [], ◌∷◌}
+use Rattle.std.specs.Prelude.{ℕ, zero, suc, ◌+◌, ◌-◌, ◌*◌, ◌/◌, ◌%◌, min, max, Bool, ◌==◌, nat_lt, cond, List, [], ◌∷◌}
 use Rattle.std.specs.List.{slice_index_or}
 use Rattle.tpz_base.specs.declared.shape.Point.{Point}
 use Rattle.tpz_base.specs.Points.{point}
