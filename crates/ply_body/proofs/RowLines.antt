@@ -1,19 +1,17 @@
 -- The lines of rows: which bytes begin with none, and that the row is given by its line.
-use Rattle.std.proofs.Common.{◌≡◌, ℕ, ◌<◌, ◌≤◌, ◌^◌, [], ◌∷◌, ◌++◌, ap, arith, decimal}
-use Rattle.std.specs.Prelude.{ℤ, pos, negsuc}
+use Rattle.std.proofs.Common.{◌≡◌, ◌<◌, [], ◌∷◌, ◌++◌, arith}
+use Rattle.std.specs.Prelude.{ℤ}
 use Rattle.std.specs.Fmt.{signed_decimal}
 use Rattle.tpz_base.specs.Cubes.{Row}
-use Rattle.tpz_base.specs.Texts.{Bytes, Face, row_line, face_line}
+use Rattle.tpz_base.specs.Texts.{Bytes, row_line}
 use Rattle.ply_body.specs.Numbers.{NoneBegins, IsCoordinate}
-use Rattle.ply_body.specs.Plain.{IsRow, IsFace}
-use Rattle.ply_body.proofs.Splits.{AllAbove, AllAbove-append, AllAbove-signed, AllAbove-decimal, same_coordinate, same_number}
-use Rattle.ply_body.proofs.Triples.{triple, NoTripleBegins, no_first, no_second, no_third, triple_is, same_triple}
+use Rattle.ply_body.specs.Plain.{IsRow}
+use Rattle.ply_body.proofs.CubeRows.{rows_equal}
+use Rattle.ply_body.proofs.Splits.{AllAbove, AllAbove-append, AllAbove-signed, same_coordinate}
+use Rattle.ply_body.proofs.Triples.{NoTripleBegins, no_first, no_second, no_third, triple_is, same_triple}
 
 signed_above : (z : ℤ) → IsCoordinate z → AllAbove 32 (signed_decimal z)
 signed_above z fits = AllAbove-signed 32 z (omega arith) fits
-
-abbrev coordinates : ℤ → ℤ → ℤ → Bytes
-coordinates x y z = triple ℤ IsCoordinate signed_decimal signed_above x y z
 
 no_row : (bytes : Bytes) → NoTripleBegins ℤ IsCoordinate signed_decimal signed_above bytes → NoneBegins IsRow row_line 10 bytes
 no_row bytes none r rest fits same = none r.x r.y r.z rest fits.x fits.y fits.z same
@@ -32,10 +30,6 @@ no_z x y bytes x_fits y_fits none = no_row _ (no_third ℤ IsCoordinate signed_d
 pub row_is : (x y z : ℤ) → (signed_decimal x ++ 32 ∷ []) ++ ((signed_decimal y ++ 32 ∷ []) ++ (signed_decimal z ++ 10 ∷ []))
     ≡ row_line (record { x = x; y = y; z = z }) ++ 10 ∷ []
 row_is x y z = triple_is ℤ IsCoordinate signed_decimal signed_above x y z
-
-rows_equal : (x y z x' y' z' : ℤ) → x ≡ x' → y ≡ y' → z ≡ z'
-    → ◌≡◌ {A = Row} (record { x = x; y = y; z = z }) (record { x = x'; y = y'; z = z' })
-rows_equal x y z x' y' z' xs ys zs = cc
 
 pub same_row : (r s : Row) → IsRow r → IsRow s → row_line r ≡ row_line s → r ≡ s
 same_row r s r_fits s_fits same =

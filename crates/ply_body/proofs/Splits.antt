@@ -1,6 +1,6 @@
 -- Where a text ends at a byte that isn't in it: each text is one only, and so is what stands behind it.
-use Rattle.std.proofs.Common.{◌≡◌, ℕ, ◌<◌, ◌≤◌, ◌^◌, List, [], ◌∷◌, ◌++◌, refl, sym, ap, arith, suc}
-use Rattle.std.specs.Prelude.{ℤ, pos, negsuc, unsigned_abs, decimal}
+use Rattle.std.proofs.Common.{◌≡◌, ℕ, ◌<◌, ◌^◌, List, [], ◌∷◌, ◌++◌, refl, arith, suc}
+use Rattle.std.specs.Prelude.{ℤ, pos, negsuc, decimal}
 use Rattle.std.specs.Fmt.{signed_decimal}
 use Rattle.std.proofs.lemmas.Fmt.{decimal_injective, signed_decimal_injective}
 use Rattle.ply_body.specs.Numbers.{IsCoordinate}

@@ -1,5 +1,5 @@
 -- What is said of told bytes, by what is said of those behind a front of them.
-use Rattle.std.proofs.Common.{◌≡◌, ℕ, [], ◌∷◌, ◌++◌, refl, sym, ◌∙◌, ap, subst, append_assoc}
+use Rattle.std.proofs.Common.{◌≡◌, [], ◌++◌, refl, sym, ◌∙◌, ap, subst, append_assoc}
 use Rattle.std.proofs.lemmas.List.{append-nil}
 use Rattle.std.specs.Option.{ForSome}
 use Rattle.std.specs.declared.option.Option.{Option}
@@ -24,17 +24,7 @@ told_behind P Q old mid front is follows all whole told =
     let it = behind old mid front whole is told in
     subst P (sym it.same) (follows it.rest (all it.rest it.told))
 
--- a byte behind those that were seen, of which all but the front were told
-pub refused_at : (P : Bytes → Type 0) (old mid new : Option Bytes) (front seen : Bytes) (byte : ℕ)
-    → ahead front old ≡ ahead seen mid → mid ≡ ahead (byte ∷ []) new → ((more : Bytes) → P (seen ++ byte ∷ more))
-    → ForSome old (λ bytes. P (front ++ bytes))
-refused_at P old mid None front seen byte taken next none bytes told = absurd (cc)
-refused_at P old mid (Some more) front seen byte taken next none bytes told =
-    let whole : Some (front ++ bytes) ≡ Some (seen ++ byte ∷ more) = ap (ahead front) (sym told) ∙ taken ∙ ap (ahead seen) next in
-    let same : seen ++ byte ∷ more ≡ front ++ bytes = cc in
-    subst P same (none more)
-
--- the end of the input behind them
+-- the end of the input behind bytes that were seen, of which all but the front were told
 pub ended_at : (P : Bytes → Type 0) (old mid : Option Bytes) (front seen : Bytes)
     → ahead front old ≡ ahead seen mid → ForSome mid (λ rest. rest ≡ []) → P seen → ForSome old (λ bytes. P (front ++ bytes))
 ended_at P old None front seen taken end none bytes told = absurd (cc)
@@ -49,3 +39,12 @@ pub chained : (old mid new : Option Bytes) (front back : Bytes) → old ≡ ahea
 chained old mid None front back first second = first ∙ ap (ahead front) second
 chained old mid (Some rest) front back first second =
     first ∙ ap (ahead front) second ∙ ap Some (sym (append_assoc front back rest))
+
+-- a reader that holds nothing
+pub none_held : (held : Bytes) (left : Option Bytes) → held ≡ [] → ahead held left ≡ left
+none_held held None is = refl
+none_held held (Some rest) is = ap (λ (l : Bytes). Some (l ++ rest)) is
+
+-- a front of what a reader that holds nothing is ahead of
+pub head_told : (held : Bytes) (left mid : Option Bytes) (front : Bytes) → held ≡ [] → ahead held left ≡ ahead front mid → left ≡ ahead front mid
+head_told held left mid front is taken = sym (none_held held left is) ∙ taken

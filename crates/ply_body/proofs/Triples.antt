@@ -1,5 +1,5 @@
 -- Lines of three values with a blank between them: which bytes begin with none, and that the values are given by the line.
-use Rattle.std.proofs.Common.{◌≡◌, ℕ, [], ◌∷◌, ◌++◌, sym, ◌∙◌, append_assoc}
+use Rattle.std.proofs.Common.{◌≡◌, [], ◌∷◌, ◌++◌, sym, ◌∙◌, append_assoc}
 use Rattle.tpz_base.specs.Texts.{Bytes}
 use Rattle.ply_body.specs.Numbers.{NoneBegins}
 use Rattle.ply_body.proofs.Splits.{AllAbove, split_once}

@@ -1,5 +1,5 @@
 -- The least and the greatest coordinates of rows.
-use Rattle.std.specs.Prelude.{◌≡◌, ℕ, max, List, map, ℤ, ◌-ℤ◌, ◌≤ℤ◌}
+use Rattle.std.specs.Prelude.{ℕ, max, List, map, ◌-ℤ◌, ◌≤ℤ◌}
 use Rattle.std.specs.Int.{int_min, int_max}
 use Rattle.tpz_base.specs.Cubes.{Row, most, natural_of}
 

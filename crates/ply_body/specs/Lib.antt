@@ -1,5 +1,7 @@
+pub mod Bodies
 pub mod Hulls
 pub mod Lines
 pub mod Numbers
 pub mod Places
 pub mod Plain
+pub mod Sorted

@@ -1,5 +1,5 @@
 -- Which texts of several lines bytes begin with.
-use Rattle.std.specs.Prelude.{◌≡◌, ℕ, ◌≤◌, List, ◌∷◌, ◌++◌, length, map, All}
+use Rattle.std.specs.Prelude.{◌≡◌, ℕ, ◌≤◌, List, ◌++◌, length, map, All}
 use Rattle.tpz_base.specs.Texts.{Bytes, head_lines, lines}
 
 -- a line for each value

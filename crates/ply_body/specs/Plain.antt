@@ -1,5 +1,5 @@
 -- Plain inputs: those that begin with the PLY text of some rows and faces, and what is read of one.
-use Rattle.std.specs.Prelude.{◌≡◌, ℕ, ◌^◌, ◌<◌, ◌≤◌, true, not, List, [], ◌∷◌, ◌++◌, length, map, filter, count_by, All, slice_index_or, unsigned_abs}
+use Rattle.std.specs.Prelude.{◌≡◌, ℕ, ◌^◌, ◌<◌, ◌≤◌, true, not, List, [], ◌∷◌, ◌++◌, length, map, filter, count_by, All, slice_index_or}
 use Rattle.std.specs.List.{list_all}
 use Rattle.tpz_base.specs.declared.shape.Point.{Point}
 use Rattle.tpz_base.specs.declared.shape.Tri.{Tri}
@@ -9,12 +9,12 @@ use Rattle.tpz_base.specs.Meshes.{Mesh, triangle, is_whole, corners_of}
 use Rattle.tpz_base.specs.Cubes.{Row, low_of, widest, less}
 use Rattle.tpz_base.specs.Texts.{Bytes, Face, ply_text}
 use Rattle.ply_body.specs.declared.plain.Plain.{Plain}
+use Rattle.ply_body.specs.Numbers.{IsCoordinate}
 
--- a row whose coordinates are at most 2,147,483,647 in absolute value
 pub record IsRow (r : Row) : Type 0 where
-  pub x : unsigned_abs r.x ≤ 2147483647
-  pub y : unsigned_abs r.y ≤ 2147483647
-  pub z : unsigned_abs r.z ≤ 2147483647
+  pub x : IsCoordinate r.x
+  pub y : IsCoordinate r.y
+  pub z : IsCoordinate r.z
 
 -- a face of an input with so many rows: each corner names one of them
 pub record IsFace (rows : ℕ) (f : Face) : Type 0 where

@@ -1,10 +1,10 @@
 // Numbers in their one decimal spelling, and given bytes, taken from the front of the input.
-ghost use Rattle.std.specs.Prelude.{◌≡◌, ◌≢◌, ◌^◌, ◌<◌, ◌≤◌, ℕ, List, [], ◌∷◌, ◌++◌, IfOk, IfSome, IfNone, IsErrOf, OnOk, decimal};
+ghost use Rattle.std.specs.Prelude.{◌≡◌, ◌≢◌, ◌<◌, ◌≤◌, ℕ, List, [], ◌∷◌, ◌++◌, IfOk, IfSome, IfNone, IsErrOf, decimal};
 ghost use Rattle.std.specs.Option.{ForSome};
-ghost use Rattle.tpz_io.specs.Causes.{HasCause, Rose};
+ghost use Rattle.tpz_io.specs.Causes.{Rose};
 ghost use Rattle.tpz_io.specs.Told.{ahead};
 ghost use Rattle.std.specs.Fmt.{signed_decimal};
-ghost use Rattle.ply_body.specs.Numbers.{IsCoordinate, IsNoFront, NoneBegins, NoNumberBegins};
+ghost use Rattle.ply_body.specs.Numbers.{IsCoordinate, NoneBegins, NoNumberBegins};
 
 use crate::plain::PlainFault;
 use tpz_io::{Failed, Reader, Source};
@@ -133,11 +133,7 @@ pub fn read_coordinate<I: Source>(
 
 // Goes on with a coordinate behind its minus.
 #[tactic(auto, using(crate::proofs::Coordinates::no_negative, crate::proofs::Coordinates::no_negative_zero))]
-fn read_negative<I: Source>(
-    reader: &mut Reader,
-    src: &mut I,
-    end: u8,
-) -> Result<i32, PlainFault>
+fn read_negative<I: Source>(reader: &mut Reader, src: &mut I, end: u8) -> Result<i32, PlainFault>
     requires { end < 45 }
     ensures coordinate { IfOk result (λ z. ahead (45 ∷ []) (ahead reader.old (I.left src.old))
         ≡ ahead (signed_decimal z ++ end ∷ []) (ahead reader.new (I.left src.new))) }
@@ -147,9 +143,9 @@ fn read_negative<I: Source>(
     ensures input { IsErrOf result PlainFault.InputFault → Rose (I.faults src.old) (I.faults src.new) }
     ensures later { I.faults src.old ≤ I.faults src.new }
 {
-    let n = read_number(reader, src, LIMIT, end)?;
-    if n == 0 {
+    let magnitude = read_number(reader, src, LIMIT, end)?;
+    if magnitude == 0 {
         return Err(PlainFault::NotPlain);
     }
-    Ok(-(n as i32))
+    Ok(-(magnitude as i32))
 }

@@ -3,3 +3,4 @@ pub mod Pieces
 pub mod NumberLemmas
 pub mod RootLoops
 pub mod WordLists
+pub mod Exports

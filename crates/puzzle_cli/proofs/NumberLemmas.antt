@@ -244,13 +244,25 @@ module _ (ks : List Point) (M : Mesh) (t : Tri) (keys : ks ≡ vertices M) (few 
 
   pub few_keys : length ks < 2 ^ 32
   few_keys =
-      omega (arith, whole_keys, few, insert_key-longer ks t.a, insert_key-longer (insert_key point_eq ks t.a) t.b,
-        insert_key-longer (insert_key point_eq (insert_key point_eq ks t.a) t.b) t.c)
+      omega (
+        arith,
+        whole_keys,
+        few,
+        insert_key-longer ks t.a,
+        insert_key-longer (insert_key point_eq ks t.a) t.b,
+        insert_key-longer (insert_key point_eq (insert_key point_eq ks t.a) t.b) t.c,
+      )
 
   pub few_keys_1 : (k1 : List Point) → k1 ≡ insert_key point_eq ks t.a → length k1 < 2 ^ 32
   few_keys_1 k1 s1 =
-      omega (arith, whole_keys, few, ap length s1, insert_key-longer (insert_key point_eq ks t.a) t.b,
-        insert_key-longer (insert_key point_eq (insert_key point_eq ks t.a) t.b) t.c)
+      omega (
+        arith,
+        whole_keys,
+        few,
+        ap length s1,
+        insert_key-longer (insert_key point_eq ks t.a) t.b,
+        insert_key-longer (insert_key point_eq (insert_key point_eq ks t.a) t.b) t.c,
+      )
 
   pub few_keys_2 : (k1 k2 : List Point) → k1 ≡ insert_key point_eq ks t.a → k2 ≡ insert_key point_eq k1 t.b → length k2 < 2 ^ 32
   few_keys_2 k1 k2 s1 s2 =
@@ -282,8 +294,10 @@ numbering_push n n' k1 k2 t f is s1 a s2 b s3 c pushed =
     let it = triangle_push n.vertices.keys k1 k2 n'.vertices.keys n.faces.items M t f is.keys faces s1 a s2 b s3 c in
     let all : map face_of n'.faces.items ≡ map (face_in n'.vertices.keys) (M ++ t ∷ []) = ap (map face_of) pushed ∙ it.1 in
     let there : HasCorners n'.vertices.keys (M ++ t ∷ []) = subst (λ (l : List Point). HasCorners l (M ++ t ∷ [])) (sym it.0) (has_corners (M ++ t ∷ [])) in
-    let mesh = numbered_mesh-is n' (M ++ t ∷ []) there all in
-    (mesh, record {
-      keys = it.0 ∙ ap vertices (sym mesh);
-      faces = all ∙ ap₂ (λ (l : List Point) (N : Mesh). map (face_in l) N) (it.0 ∙ ap vertices (sym mesh)) (sym mesh);
-    })
+    let mesh = numbered_mesh-is n' (M ++ t ∷ []) there all in (
+      mesh,
+      record {
+        keys = it.0 ∙ ap vertices (sym mesh);
+        faces = all ∙ ap₂ (λ (l : List Point) (N : Mesh). map (face_in l) N) (it.0 ∙ ap vertices (sym mesh)) (sym mesh);
+      },
+    )

@@ -38,6 +38,8 @@ head_pieces old digits vertices faces =
     let f = decimal faces in
     let tail = codes "property list uchar int vertex_indices\nend_header\n" in
     simp append_assoc (
-      rw (append_assoc d (10 ∷ []) (codes "element vertex " ++ ((v ++ 10 ∷ []) ++ (codes "property int x\nproperty int y\nproperty int z\nelement face " ++ ((f ++ 10 ∷ []) ++ tail)))),
-        append_assoc v (10 ∷ []) (codes "property int x\nproperty int y\nproperty int z\nelement face " ++ ((f ++ 10 ∷ []) ++ tail)),
-        append_assoc f (10 ∷ []) tail) refl)
+    rw (
+      append_assoc d (10 ∷ []) (codes "element vertex " ++ ((v ++ 10 ∷ []) ++ (codes "property int x\nproperty int y\nproperty int z\nelement face " ++ ((f ++ 10 ∷ []) ++ tail)))),
+      append_assoc v (10 ∷ []) (codes "property int x\nproperty int y\nproperty int z\nelement face " ++ ((f ++ 10 ∷ []) ++ tail)),
+      append_assoc f (10 ∷ []) tail,
+    ) refl)

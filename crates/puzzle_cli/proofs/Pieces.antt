@@ -60,8 +60,8 @@ joined_lines head rows faces =
     let ended : Bytes → Bytes = λ l. l ++ 10 ∷ [] in
     flat_map-append ended (head ++ map row_line rows) (map face_line faces)
     ∙ ap₂ (λ (a b : Bytes). a ++ b)
-      (flat_map-append ended head (map row_line rows) ∙ ap (λ (b : Bytes). lines head ++ b) (flat_map-map ended row_line rows))
-      (flat_map-map ended face_line faces)
+    (flat_map-append ended head (map row_line rows) ∙ ap (λ (b : Bytes). lines head ++ b) (flat_map-map ended row_line rows))
+    (flat_map-map ended face_line faces)
 
 pub ply_text_is : (digits : ℕ) (rows : List Row) (faces : List Face)
     → ply_text digits rows faces ≡ (head_text digits (length rows) (length faces) ++ flat_map row_text rows) ++ flat_map face_text faces
@@ -75,8 +75,8 @@ unfolding rows_text faces_text
 text_pieces digits low ps fs =
     sym (ply_text_is digits (map (shifted low) ps) (map face_of fs)
     ∙ ap₂ (λ (a b : Bytes). a ++ b)
-      (ap₂ (λ (a b : Bytes). a ++ b) (ap₂ (head_text digits) (length-map ps (shifted low)) (length-map fs face_of)) (flat_map-map row_text (shifted low) ps))
-      (flat_map-map face_text face_of fs))
+    (ap₂ (λ (a b : Bytes). a ++ b) (ap₂ (head_text digits) (length-map ps (shifted low)) (length-map fs face_of)) (flat_map-map row_text (shifted low) ps))
+    (flat_map-map face_text face_of fs))
 
 -- what is written behind an open part that holds nothing
 pub text_written : (digits : ℕ) (low : Row) (ps : List Point) (fs : List Corners) (u0 u1 u2 u3 : Option Bytes) (b0 b1 b2 b3 : Bytes)

@@ -1,17 +1,17 @@
 -- The triangles of the roots, as far as loops have come.
-use Rattle.std.proofs.Common.{◌≡◌, ℕ, ◌+◌, ◌<◌, ◌≤◌, true, false, List, [], ◌∷◌, ◌++◌, length, take, drop, get_or, refl, sym, ◌∙◌, ap, subst, arith, append_assoc, zero, suc, ◌-◌, zero-add, add-zero, map-id}
-use Rattle.std.specs.Prelude.{filter, flat_map}
+use Rattle.std.proofs.Common.{◌≡◌, ℕ, ◌+◌, ◌<◌, ◌≤◌, true, false, List, [], ◌∷◌, ◌++◌, length, take, drop, get_or, refl, sym, ◌∙◌, ap, subst, arith, append_assoc, zero, suc, ◌-◌, zero-add, add-zero, map-id, inl, inr, cond}
+use Rattle.std.specs.Prelude.{filter, flat_map, ◌==◌}
 use Rattle.std.specs.List.{range_with_len}
-use Rattle.std.proofs.lemmas.Bool.{eq-eqb, ne_eqb}
+use Rattle.std.proofs.lemmas.Bool.{cases_Bool, eq-eqb, ne_eqb, eqb-true}
 use Rattle.std.proofs.lemmas.List.{append-nil, take_more, take-append-drop}
 use Rattle.std.proofs.lemmas.List.Elements.{filter-append}
 use Rattle.std.proofs.lemmas.List.FromFn.{map-range_with_len_more}
 use Rattle.std.proofs.lemmas.Grind.{flat_map-append}
 use Rattle.tpz_base.specs.declared.shape.Tri.{Tri}
 use Rattle.tpz_base.specs.Meshes.{Mesh}
-use Rattle.tpz_base.specs.Roots.{corner_sum, root_slot, is_in_root, root_part, roots_parts}
+use Rattle.tpz_base.specs.Roots.{corner_sum, root_slot, is_in_root, root_part, roots_parts, mesh_by_roots}
 use Rattle.tpz_base.specs.Texts.{vertices}
-use Rattle.puzzle_cli.specs.Numbering.{FewVertices}
+use Rattle.puzzle_cli.specs.Numbering.{FewVertices, is_outside}
 use Rattle.puzzle_cli.proofs.NumberLemmas.{vertices-longer}
 
 pub in_root : (t : Tri) (place : ℕ) → root_slot (corner_sum t) ≡ place → root_part (t ∷ []) place ≡ t ∷ []
@@ -66,7 +66,8 @@ few_up M n (suc k) few =
     few_up M n k (few_front (roots_parts M (n + k)) (root_part M (n + k)) (roots_parts M (n + suc k))
     (ap (roots_parts M) last ∙ roots_parts_more M (n + k)) few)
 
-pub few_roots : (M now : Mesh) (n : ℕ) → now ≡ roots_parts M n → n < 6 → FewVertices (roots_parts M 6) → FewVertices (now ++ root_part M n)
+pub few_roots : (M now : Mesh) (n : ℕ) → now ≡ roots_parts M n → n < 6 → FewVertices (mesh_by_roots M) → FewVertices (now ++ root_part M n)
+unfolding mesh_by_roots
 few_roots M now n so_far h few =
     let six : 6 ≡ (n + 1) + (6 - (n + 1)) = omega arith in
     let all : FewVertices (roots_parts M ((n + 1) + (6 - (n + 1)))) = subst (λ (m : ℕ). FewVertices (roots_parts M m)) six few in
@@ -81,3 +82,41 @@ none_added M t place other = sym (ap (λ (l : Mesh). M ++ l) (not_in_root t plac
 
 pub no_part : (M : Mesh) (place : ℕ) → M ≡ M ++ root_part [] place
 no_part M place = sym (append-nil M)
+
+pub all_roots : (M now : Mesh) (n : ℕ) → now ≡ roots_parts M n → 6 ≤ n → n ≤ 6 → now ≡ mesh_by_roots M
+unfolding mesh_by_roots
+all_roots M now n so_far least most = let six : n ≡ 6 = omega arith in so_far ∙ ap (roots_parts M) six
+
+pub outside : (t : Tri) (place : ℕ) → (root_slot (corner_sum t) ≡ place → ⊥) → is_outside place t ≡ true
+unfolding is_outside is_in_root
+outside t place other = rw (ne_eqb (root_slot (corner_sum t)) place other) refl
+
+pub inside : (t : Tri) (place : ℕ) → root_slot (corner_sum t) ≡ place → is_outside place t ≡ false
+unfolding is_outside is_in_root
+inside t place same = rw (eq-eqb (root_slot (corner_sum t)) place same) refl
+
+-- the triangles of other roots stay where those of one go
+root_part-without : (M : Mesh) (place k : ℕ) → (k ≡ place → ⊥) → root_part (filter (is_outside place) M) k ≡ root_part M k
+unfolding is_outside is_in_root
+root_part-without [] place k other = refl
+root_part-without (t ∷ M) place k other =
+    let slot = root_slot (corner_sum t) in
+    elim (cases_Bool (slot == place)) [
+      | inl e ↦ (let not_here : (slot == k) ≡ false = ne_eqb slot k (λ h. other (sym h ∙ eqb-true slot place e)) in rw (e, not_here) (root_part-without M place k other))
+      | inr e ↦ rw e (ap (λ (l : Mesh). cond (slot == k) (t ∷ l) l) (root_part-without M place k other))
+    ]
+
+-- what is still there of the roots to come
+pub later_parts : (M now new : Mesh) (n : ℕ) → ((k : ℕ) → n ≤ k → root_part now k ≡ root_part M k) → new ≡ filter (is_outside n) now
+    → (k : ℕ) → n + 1 ≤ k → root_part new k ≡ root_part M k
+later_parts M now new n there gone k later =
+    ap (λ (l : Mesh). root_part l k) gone ∙ root_part-without now n k (λ e. omega (arith, e, later)) ∙ there k (omega arith)
+
+pub few_here : (M now done : Mesh) (n : ℕ) → done ≡ roots_parts M n → n < 6 → ((k : ℕ) → n ≤ k → root_part now k ≡ root_part M k)
+    → FewVertices (mesh_by_roots M) → FewVertices (done ++ root_part now n)
+few_here M now done n so_far h there few =
+    subst (λ (l : Mesh). FewVertices (done ++ l)) (sym (there n (omega arith))) (few_roots M done n so_far h few)
+
+pub roots_here : (M now done new : Mesh) (n : ℕ) → done ≡ roots_parts M n → ((k : ℕ) → n ≤ k → root_part now k ≡ root_part M k)
+    → new ≡ done ++ root_part now n → new ≡ roots_parts M (n + 1)
+roots_here M now done new n so_far there added = roots_more M done new n so_far (added ∙ ap (λ (l : Mesh). done ++ l) (there n (omega arith)))

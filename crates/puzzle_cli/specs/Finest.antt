@@ -5,7 +5,7 @@ use Rattle.std.specs.declared.alloc.Global.{Global}
 use Rattle.tpz_io.specs.Writes.{Item, Part, Note}
 use Rattle.tpz_base.specs.Meshes.{Mesh}
 use Rattle.tpz_base.specs.Cubes.{Row, low_of, level_bound}
-use Rattle.tpz_base.specs.Roots.{root_mesh, roots_parts}
+use Rattle.tpz_base.specs.Roots.{root_mesh, mesh_by_roots}
 use Rattle.tpz_base.specs.Texts.{Bytes, Face, vertices, text}
 use Rattle.ply_body.specs.declared.plain.Plain.{Plain}
 use Rattle.ply_body.specs.Plain.{mesh_of, dropped_of}
@@ -24,13 +24,13 @@ finest_note tris dropped vertices =
     codes "finest tris " ++ (decimal tris ++ (codes " dropped " ++ (decimal dropped ++ (codes " vertices " ++ decimal vertices))))
 
 -- one part, with the mesh in the input's coordinates, and the note
-abbrev pub finest_items : List Row → List Face → List Item
-finest_items rows faces =
-    let M = finest_mesh rows faces in
-    Part (text M (low_of rows) 0) ∷ Note (finest_note (length (mesh_of rows faces)) (dropped_of rows faces) (length (vertices M))) ∷ []
+unfoldable pub items_for : Row → Mesh → ℕ → ℕ → List Item
+items_for low M tris dropped = Part (text M low 0) ∷ Note (finest_note tris dropped (length (vertices M))) ∷ []
 
--- what is written for a mesh that was read
+-- what is written for an input of these rows and faces
+abbrev pub finest_items : List Row → List Face → List Item
+finest_items rows faces = items_for (low_of rows) (finest_mesh rows faces) (length (mesh_of rows faces)) (dropped_of rows faces)
+
+-- what is written for what was read
 abbrev pub items_of : Plain → List Item
-items_of plain =
-    let M = roots_parts plain.tris.items 6 in
-    Part (text M (row_of plain.low) 0) ∷ Note (finest_note (length plain.tris.items) plain.dropped (length (vertices M))) ∷ []
+items_of plain = items_for (row_of plain.low) (mesh_by_roots plain.tris.items) (length plain.tris.items) plain.dropped

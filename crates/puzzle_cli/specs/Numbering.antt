@@ -1,10 +1,11 @@
 -- Meshes with numbered vertices.
-use Rattle.std.specs.Prelude.{◌≡◌, ℕ, ◌≤◌, List, length, map}
+use Rattle.std.specs.Prelude.{◌≡◌, ℕ, ◌≤◌, Bool, not, List, length, map}
 use Rattle.std.specs.List.{slice_index_or}
 use Rattle.tpz_base.specs.declared.shape.Point.{Point}
 use Rattle.tpz_base.specs.declared.shape.Tri.{Tri}
 use Rattle.tpz_base.specs.Points.{point}
 use Rattle.tpz_base.specs.Meshes.{Mesh, triangle}
+use Rattle.tpz_base.specs.Roots.{is_in_root}
 use Rattle.tpz_base.specs.Texts.{vertices, face_in}
 use Rattle.puzzle_cli.specs.declared.numbering.Corners.{Corners}
 use Rattle.puzzle_cli.specs.declared.numbering.Numbered.{Numbered}
@@ -28,3 +29,7 @@ pub record IsNumbering (n : Numbered) : Type 0 where
 -- a mesh has at most so many vertices
 abbrev pub FewVertices : Mesh → Type 0
 FewVertices M = length (vertices M) ≤ 2147483648
+
+-- t isn't in the root at this place
+unfoldable pub is_outside : ℕ → Tri → Bool
+is_outside place t = not (is_in_root place t)

@@ -4,7 +4,7 @@ ghost use Rattle.std.specs.Option.{ForSome};
 ghost use Rattle.tpz_io.specs.Causes.{Rose};
 ghost use Rattle.tpz_io.specs.Writes.{Wrote, WrotePrefix};
 ghost use Rattle.tpz_base.specs.Cubes.{Row};
-ghost use Rattle.tpz_base.specs.Roots.{roots_parts};
+ghost use Rattle.tpz_base.specs.Roots.{mesh_by_roots};
 ghost use Rattle.tpz_base.specs.Texts.{Face};
 ghost use Rattle.ply_body.specs.Plain.{IsPlain, StartsPlain};
 ghost use Rattle.puzzle_cli.specs.Finest.{finest_items, finest_note, items_of};
@@ -31,21 +31,18 @@ fn note_line(
 }
 
 // Writes the part and the note of what was read.
-fn export<O: Out>(alloc: Global, plain: &Plain, out: &mut O) -> Result<(), WriteFault>
-    requires low { IsLow plain.now.low }
-    requires few { FewVertices (roots_parts plain.now.tris.items 6) }
-    ensures ok { OnOk result (Wrote (items_of plain.now) (O.parts out.old) (O.parts out.new) (O.notes out.old) (O.notes out.new)) }
-    ensures front { WrotePrefix (items_of plain.now) (O.parts out.old) (O.parts out.new) (O.notes out.old) (O.notes out.new) }
+fn export<O: Out>(alloc: Global, plain: Plain, out: &mut O) -> Result<(), WriteFault>
+    requires low { IsLow plain.low }
+    requires few { FewVertices (mesh_by_roots plain.tris.items) }
+    ensures ok { OnOk result (Wrote (items_of plain) (O.parts out.old) (O.parts out.new) (O.notes out.old) (O.notes out.new)) }
+    ensures front { WrotePrefix (items_of plain) (O.parts out.old) (O.parts out.new) (O.notes out.old) (O.notes out.new) }
     ensures later { O.faults out.old ≤ O.faults out.new }
     ensures out { IsErrOf result WriteFault.OutFault → Rose (O.faults out.old) (O.faults out.new) }
 {
-    let mesh = number_by_roots(alloc, &plain.tris)?;
-    let line = note_line(
-        alloc,
-        plain.tris.len(),
-        plain.dropped,
-        mesh.vertices.len(),
-    )?;
+    let count = plain.tris.as_slice().len();
+    let mesh = number_by_roots(alloc, plain.tris)?;
+    let vertices = mesh.vertices.as_slice();
+    let line = note_line(alloc, count, plain.dropped, vertices.len())?;
     write_part(alloc, out, &mesh, &plain.low)?;
     out.note(line.as_bytes())?;
     Ok(())
@@ -75,7 +72,7 @@ pub fn finest<I: Source, O: Out>(alloc: Global, input: &mut I, out: &mut O) -> S
         Err(PlainFault::InputFault) => return Status::InputFault,
         Err(PlainFault::Memory) => return Status::Memory,
     };
-    match export(alloc, &plain, out) {
+    match export(alloc, plain, out) {
         Ok(()) => Status::Ok,
         Err(WriteFault::OutFault) => Status::OutFault,
         Err(WriteFault::Memory) => Status::Memory,

@@ -1,10 +1,10 @@
 // The vertices of a mesh in the order of first use, and its triangles by the numbers of their corners.
-ghost use Rattle.std.specs.Prelude.{◌≡◌, ◌≤◌, ◌<◌, ◌++◌, ◌∷◌, ◌^◌, [], length, IfOk, OnOk};
+ghost use Rattle.std.specs.Prelude.{◌≡◌, ◌≤◌, ◌<◌, ◌++◌, ◌∷◌, ◌^◌, [], length, filter, IfOk, OnOk};
 ghost use Rattle.indexmap.specs.IndexSet.{insert_key};
 ghost use Rattle.tpz_base.specs.Points.{point_eq};
-ghost use Rattle.tpz_base.specs.Roots.{root_part, roots_parts};
+ghost use Rattle.tpz_base.specs.Roots.{root_part, mesh_by_roots};
 ghost use Rattle.tpz_base.specs.Texts.{number_in};
-ghost use Rattle.puzzle_cli.specs.Numbering.{numbered_mesh, IsNumbering, FewVertices};
+ghost use Rattle.puzzle_cli.specs.Numbering.{numbered_mesh, is_outside, IsNumbering, FewVertices};
 
 use crate::root_order::root_place;
 use indexmap::IndexSet;
@@ -37,15 +37,15 @@ fn number(vertices: &mut IndexSet<Point>, p: Point) -> Result<u32, AllocError>
 }
 
 impl Numbered {
-    /// No vertex and no triangle.
-    pub fn new(alloc: Global) -> Self
-        ensures mesh { numbered_mesh result ≡ [] }
-        ensures numbering { IsNumbering result }
+    /// No vertex and no triangle, and room for so many triangles. A closed mesh has about half as many vertices as
+    /// triangles; room for a few more is taken at once.
+    pub fn with_room(alloc: Global, tris: usize) -> Result<Self, AllocError>
+        ensures mesh { IfOk result (λ numbered. numbered_mesh numbered ≡ []) }
+        ensures numbering { IfOk result IsNumbering }
     {
-        Numbered {
-            vertices: IndexSet::new(alloc),
-            faces: Vec::new(alloc),
-        }
+        let vertices = IndexSet::with_capacity(alloc, tris / 8 * 5)?;
+        let faces = Vec::with_capacity(alloc, tris)?;
+        Ok(Numbered { vertices, faces })
     }
 
     // Adds a triangle at the end of the mesh.
@@ -90,15 +90,33 @@ impl Numbered {
     }
 }
 
-/// The triangles of each root in turn, with their vertices numbered in the order of first use.
-pub fn number_by_roots(alloc: Global, tris: &[Tri]) -> Result<Numbered, AllocError>
-    requires { FewVertices (roots_parts tris.now 6) }
-    ensures mesh { IfOk result (λ numbered. numbered_mesh numbered ≡ roots_parts tris.now 6) }
+// Whether a triangle stays where those of this root go.
+#[tactic(auto, using(crate::proofs::RootLoops::outside, crate::proofs::RootLoops::inside))]
+fn stays(t: &Tri, place: u8) -> bool
+    ensures { result ≡ is_outside place t.now }
+{
+    root_place(t) != place
+}
+
+// Lets the triangles of a root go, and their memory with them.
+fn let_go(tris: &mut Vec<Tri>, place: u8)
+    ensures { tris.new.items ≡ filter (is_outside place) tris.old.items }
+{
+    tris.retain(|t| stays(t, place));
+    tris.shrink_to_fit();
+}
+
+/// The triangles of each root in turn, with their vertices numbered in the order of first use. The triangles of a root are
+/// let go once they are numbered, so that a mesh of many roots is never held twice.
+pub fn number_by_roots(alloc: Global, mut tris: Vec<Tri>) -> Result<Numbered, AllocError>
+    requires { FewVertices (mesh_by_roots tris.items) }
+    ensures mesh { IfOk result (λ numbered. numbered_mesh numbered ≡ mesh_by_roots tris.items) }
     ensures numbering { IfOk result IsNumbering }
 {
-    let mut numbered = Numbered::new(alloc);
+    let mut numbered = Numbered::with_room(alloc, tris.len())?;
     'roots: for place in 0..6u8 {
-        numbered.add_root(tris, place)?;
+        numbered.add_root(&tris, place)?;
+        let_go(&mut tris, place);
     }
     Ok(numbered)
 }

@@ -126,7 +126,11 @@ fn write_vertices<O: Out>(
 
 // Adds the lines of the triangles to the open part.
 #[tactic(auto, using(crate::proofs::Pieces::no_faces, crate::proofs::Pieces::face_more))]
-fn write_faces<O: Out>(out: &mut O, buffer: &mut PartBuffer, faces: &[Corners]) -> Result<(), Failed>
+fn write_faces<O: Out>(
+    out: &mut O,
+    buffer: &mut PartBuffer,
+    faces: &[Corners],
+) -> Result<(), Failed>
     requires { IsTrue (O.is_open out.old) }
     ensures opened { OnOk result (IsTrue (O.is_open out.new)) }
     ensures bytes { OnOk result (followed_by (O.unfinished out.new) buffer.new

@@ -1,5 +1,5 @@
 // A file as a blob.
-ghost use Rattle.std.specs.Prelude.{◌≡◌, is_some};
+ghost use Rattle.std.specs.Prelude.{◌≡◌};
 ghost use Rattle.std.specs.declared.option.Option.TheVariants.{None};
 ghost use Rattle.tpz_io.specs.Causes.{HasCause, one_more};
 
@@ -58,8 +58,8 @@ fn write_all(file: &File, at: u64, bytes: &[u8]) -> Option<()> {
 impl<R: Files<File = File> + Drop> FileBlob<R> {
     /// A blob of the file at this path. No call was made.
     pub fn new(rt: R, path: String) -> Self
-        ensures faults { result.faults ≡ 0 }
-        ensures reads { result.reads ≡ 0 }
+        ensures faults { ⟦<FileBlob<R> as Blob>⟧.faults result ≡ 0 }
+        ensures reads { ⟦<FileBlob<R> as Blob>⟧.reads result ≡ 0 }
     {
         FileBlob {
             rt,

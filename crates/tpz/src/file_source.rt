@@ -20,7 +20,7 @@ pub struct FileSource<R: Files<File = File> + Drop> {
 impl<R: Files<File = File> + Drop> FileSource<R> {
     /// A source of the file at this path. No call was made.
     pub fn new(rt: R, path: String) -> Self
-        ensures { result.faults ≡ 0 }
+        ensures { ⟦<FileSource<R> as Source>⟧.faults result ≡ 0 }
     {
         FileSource {
             rt,

@@ -18,6 +18,7 @@ pub mod EveryPath
 pub mod PointOrder
 pub mod Diamonds
 pub mod RecordLt
+pub mod VertexCounts
 mod ProductSums
 mod WorkedMeshes
 mod WorkedCollapses

@@ -1,4 +1,4 @@
-use Rattle.std.proofs.Common.{rules, w32, ◌∙◌, sym, false, true}
+use Rattle.std.proofs.Common.{rules, w32, ◌∙◌, sym}
 use Rattle.std.proofs.lemmas.Bool.{false≢true}
 use Rattle.std.proofs.lemmas.Int.{to_z-of_z}
 use Rattle.std.specs.Prelude.{FitsSigned}
@@ -17,8 +17,8 @@ returns-then-is_near-2 c =
     let on_x = simp to_z-of_z at c.is_near.ensures in
     let on_z = simp to_z-of_z at c.is_near-then-is_near-2.ensures in
     elim c.if-is_near.branch [
-      then-is_near w ↦
-        let on_y = simp to_z-of_z at w.is_near-then-is_near.ensures in
-        widest_by _ _ _ 1073741824 _ (on_x.0 w.if-is_near.true) (on_y.0 (sym w.value-is ∙ c.if-is_near-2.true)) on_z
+      | then-is_near w ↦
+          let on_y = simp to_z-of_z at w.is_near-then-is_near.ensures in
+          widest_by _ _ _ 1073741824 _ (on_x.0 w.if-is_near.true) (on_y.0 (sym w.value-is ∙ c.if-is_near-2.true)) on_z
       | else-is_near w ↦ absurd (false≢true (sym w.if-is_near.false ∙ sym w.value-is ∙ c.if-is_near-2.true))
     ]

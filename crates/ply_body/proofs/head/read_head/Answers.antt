@@ -2,8 +2,8 @@ use Rattle.std.proofs.Common.{◌≡◌, [], ◌∷◌, ◌++◌, ap, Err}
 use Rattle.std.proofs.lemmas.Result.{err_from_is_err_and}
 use Rattle.ply_body.specs.declared.plain.PlainFault.TheVariants.{NotPlain}
 use Rattle.ply_body.specs.Lines.{NoHeadBegins}
-use Rattle.ply_body.specs.Numbers.{NoneBegins, IsNoFront}
-use Rattle.ply_body.proofs.Heads.{IsCount, count_line, before_rows, before_faces, at_end, no_rows_count, no_faces_count, no_end, head_parts}
+use Rattle.ply_body.specs.Numbers.{IsNoFront}
+use Rattle.ply_body.proofs.Heads.{count_line, before_rows, before_faces, at_end, no_rows_count, no_faces_count, no_end, head_parts}
 use Rattle.ply_body.proofs.Told.{told_behind, chained}
 use Rattle.ply_body.proofs.head.read_head.Goals as goal
 

@@ -1,4 +1,4 @@
-use Rattle.std.proofs.Common.{arith, rules}
+use Rattle.std.proofs.Common.{arith}
 use Rattle.std.proofs.lemmas.Grind.{common_steps}
 use Rattle.ply_body.proofs.Digits.{too_large}
 use Rattle.ply_body.proofs.numbers.longer_number.Goals as goal

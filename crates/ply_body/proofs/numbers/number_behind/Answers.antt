@@ -1,5 +1,4 @@
 use Rattle.std.proofs.Common.{◌∷◌, [], decimal, arith}
-use Rattle.std.proofs.lemmas.Grind.{common_steps}
 use Rattle.ply_body.specs.Numbers.{NoNumberBegins}
 use Rattle.ply_body.proofs.Digits.{cut_off}
 use Rattle.ply_body.proofs.Told.{ended_at}
