@@ -7,7 +7,9 @@ use Rattle.tpz_base.specs.Points.{point_scale}
 use Rattle.tpz_base.specs.Tetrahedra.{Tetrahedron, diamond, child_0, child_1, at_level}
 use Rattle.tpz_base.specs.Diamonds.{level_of}
 use Rattle.tpz_base.proofs.CutLaw.{Member}
-use Rattle.tetra_name.specs.Places.{InBox, IsPlace}
+use Rattle.tetra_name.specs.Places.{InBox, IsPlace, TellsMember}
+use Rattle.tetra_name.proofs.Rounds.{even_side}
+use Rattle.tetra_name.proofs.NameFacts.{member-contains}
 use Rattle.tetra_name.specs.declared.shape.Tet.{Tet}
 use Rattle.tetra_name.specs.Names.{child_of, point_of, tetrahedron_of, IsWithin}
 use Rattle.tetra_name.specs.Steps.{is_member, long_axes, pairs, member_at, slot_at, child_pair, child_point, IsScalable}
@@ -129,6 +131,23 @@ module _ (L : ℕ) (t : Tet) (j N : ℕ) (u : Point) (q : ℕ × ℕ) (most : L 
       (in_range i M _ (top i M le side) b.x, in_range i M _ (top i M le side) b.y, in_range i M _ (top i M le side) b.z)
   child_scales i M o (suc (suc w)) lt B pos le side = absurd (omega (arith, lt))
 
+  child_tells : (i M o which : ℕ) → which < 2 → Both i M o T u q → 0 < o → i ≤ L → M ≡ 2 ^ suc (L - i) → TellsMember M (child_point which u q) (child_pair which u q)
+  child_tells i M o zero lt B pos le side = record {
+    box = inside_of_closed L (suc P.scale.n) i M o (child_0 T) (child_point 0 u q) (child_pair 0 u q) most (omega (arith, low)) (child_0_in L P.scale.n T in_level) le side B.c0 pos B.d0;
+    even = ap (λ n. n % 2) side ∙ even_side (L - i);
+    some = omega (arith, B.c0.axes, pos);
+    listed = member-contains pairs (child_pair 0 u q) B.c0.has;
+    valid = B.c0.valid;
+  }
+  child_tells i M o (suc zero) lt B pos le side = record {
+    box = inside_of_closed L (suc P.scale.n) i M o (child_1 T) (child_point 1 u q) (child_pair 1 u q) most (omega (arith, low)) (child_1_in L P.scale.n T in_level) le side B.c1 pos B.d1;
+    even = ap (λ n. n % 2) side ∙ even_side (L - i);
+    some = omega (arith, B.c1.axes, pos);
+    listed = member-contains pairs (child_pair 1 u q) B.c1.has;
+    valid = B.c1.valid;
+  }
+  child_tells i M o (suc (suc w)) lt B pos le side = absurd (omega (arith, lt))
+
   pub side_fits : N ≤ 1073741824
   side_fits = side_small L (point_of t.centre) j N u P.scale most low
 
@@ -175,3 +194,15 @@ module _ (L : ℕ) (t : Tet) (j N : ℕ) (u : Point) (q : ℕ × ℕ) (most : L 
   pub named : (which : ℕ) (r : Tet) → which < 2 → long_axes u ≢ 1 → point_of r.centre ≡ point_scale (2 ^ j) (child_point which u q) → r.slot ≡ slot_at N (child_point which u q) (child_pair which u q)
       → tetrahedron_of L r ≡ child_of which (tetrahedron_of L t)
   named which r lt n = more_named which (long_axes u) r lt refl P.scale.unit.some n (axes_within u)
+
+  pub edge_tells : (which : ℕ) → which < 2 → long_axes u ≡ 1 → TellsMember (2 * N) (child_point which u q) (child_pair which u q)
+  edge_tells which lt o = child_tells (j - 1) (2 * N) 3 which lt (of_edge o) (omega arith) (omega (arith, below_here)) (side_next (edge_power o))
+
+  pub tells : (which : ℕ) → which < 2 → long_axes u ≢ 1 → TellsMember N (child_point which u q) (child_pair which u q)
+  tells which lt n = cases (long_axes u) refl where
+    cases : (o : ℕ) → long_axes u ≡ o → TellsMember N (child_point which u q) (child_pair which u q)
+    cases zero e = absurd (omega (arith, e, P.scale.unit.some))
+    cases (suc zero) e = absurd (n e)
+    cases (suc (suc zero)) e = child_tells j N 1 which lt (of_face e) (omega arith) below_here side_here
+    cases (suc (suc (suc zero))) e = child_tells j N 2 which lt (of_cube e) (omega arith) below_here side_here
+    cases (suc (suc (suc (suc o)))) e = absurd (omega (arith, e, axes_within u))

@@ -1,8 +1,7 @@
 -- Each descendant has one name, and different names have different corners.
-use Rattle.std.proofs.Common.{◌≡◌, ℕ, zero, suc, ◌*◌, ◌^◌, ◌≤◌, ◌<◌, List, [], ◌∷◌, length, refl, sym, ◌∙◌, ap, ap₂, subst, inl, inr, arith}
-use Rattle.std.specs.Prelude.{filter, Contains, Some, IfSome}
+use Rattle.std.proofs.Common.{◌≡◌, ℕ, suc, ◌*◌, ◌^◌, ◌≤◌, ◌<◌, [], length, refl, sym, ◌∙◌, ap, ap₂, subst, arith}
+use Rattle.std.specs.Prelude.{filter, Some, IfSome}
 use Rattle.std.specs.Option.{option_map_or}
-use Rattle.std.specs.List.{slice_index_or}
 use Rattle.std.proofs.lemmas.Option.{slice_get_within}
 use Rattle.std.proofs.lemmas.List.{length-map}
 use Rattle.std.proofs.lemmas.List.Sums.{count_by-le-length, length-filter}
@@ -21,19 +20,8 @@ use Rattle.tetra_name.proofs.Units.{unit_of_member, UnitOf}
 use Rattle.tetra_name.proofs.NameFacts.{some_of}
 use Rattle.tetra_name.proofs.Lengths.{Shape, shape_of, level_by_corners}
 use Rattle.tetra_name.proofs.PlaceLaw.{members_in, fits_of_scale}
+use Rattle.tetra_name.proofs.NameFacts.{contains-member, member-contains}
 use Rattle.tetra_name.proofs.Rooms.{in_range}
-
-contained-member : {X : Type 0} (xs : List X) (x : X) (k : ℕ) → k < length xs → slice_index_or xs k x ≡ x → Member xs x
-contained-member [] x k lt e = absurd (omega (arith, lt))
-contained-member (y ∷ ys) x zero lt e = inl e
-contained-member (y ∷ ys) x (suc k) lt e = inr (contained-member ys x k (omega (arith, lt)) e)
-
-contains-member : {X : Type 0} (xs : List X) (x : X) → Contains xs x → Member xs x
-contains-member xs x h = contained-member xs x h.0 h.1 h.2
-
-member-contains : {X : Type 0} (xs : List X) (x : X) → Member xs x → Contains xs x
-member-contains [] x m = absurd m
-member-contains (y ∷ ys) x m = elim m [ inl e ↦ (0, omega arith, e) | inr k ↦ let r = member-contains ys x k in (suc r.0, omega (arith, r.1), r.2) ]
 
 tet_cong : (s t : Tet) → point_of s.centre ≡ point_of t.centre → s.slot ≡ t.slot → s ≡ t
 tet_cong s t e f = ap₂ (λ (p : Point) (i : ℕ). let r : Tet = record { centre = half_of p; slot = i } in r) e f

@@ -1,6 +1,8 @@
 -- What a name says of its level, and what the name of a child or a parent says of the other.
-use Rattle.std.proofs.Common.{◌≡◌, ◌<◌, ◌↔◌, ℕ, zero, suc, List, [], ◌∷◌, length, sym, ◌∙◌, ap, refl, arith, true≢false}
-use Rattle.std.specs.Prelude.{Option, Some, None, IsSome, slice_get}
+use Rattle.std.proofs.Common.{◌≡◌, ◌<◌, ◌↔◌, ℕ, zero, suc, List, [], ◌∷◌, length, sym, ◌∙◌, ap, refl, arith, inl, inr, true≢false}
+use Rattle.std.specs.Prelude.{Option, Some, None, IsSome, slice_get, Contains}
+use Rattle.std.specs.List.{slice_index_or}
+use Rattle.tpz_base.proofs.CutLaw.{Member}
 use Rattle.tpz_base.specs.Tetrahedra.{Tetrahedron, child_0, child_1, members}
 use Rattle.tpz_base.specs.Diamonds.{level_of}
 use Rattle.tpz_base.proofs.Members.{member_named}
@@ -65,3 +67,15 @@ some_within (x ∷ xs) (suc i) h = let lt = some_within xs i h in omega (arith, 
 pub slots_of : (L : ℕ) (c : Half) (n : ℕ) → n ≡ count_of L (point_of c) → (i : ℕ) → i < n ↔ IsName L (record { centre = c; slot = i })
 unfolding IsName count_of tetrahedron_of
 slots_of L c n e i = (λ lt. within_some (members L (point_of c)) i (omega (arith, lt, e)), λ h. (let lt = some_within (members L (point_of c)) i h in omega (arith, lt, e)))
+
+contained-member : {X : Type 0} (xs : List X) (x : X) (k : ℕ) → k < length xs → slice_index_or xs k x ≡ x → Member xs x
+contained-member [] x k lt e = absurd (omega (arith, lt))
+contained-member (y ∷ ys) x zero lt e = inl e
+contained-member (y ∷ ys) x (suc k) lt e = inr (contained-member ys x k (omega (arith, lt)) e)
+
+pub contains-member : {X : Type 0} (xs : List X) (x : X) → Contains xs x → Member xs x
+contains-member xs x h = contained-member xs x h.0 h.1 h.2
+
+pub member-contains : {X : Type 0} (xs : List X) (x : X) → Member xs x → Contains xs x
+member-contains [] x m = absurd m
+member-contains (y ∷ ys) x m = elim m [ inl e ↦ (0, omega arith, e) | inr k ↦ let r = member-contains ys x k in (suc r.0, omega (arith, r.1), r.2) ]

@@ -10,7 +10,8 @@ use Rattle.tpz_base.proofs.Distinct.{tetrahedron_cong}
 use Rattle.tetra_name.specs.declared.shape.Tet.{Tet}
 use Rattle.tetra_name.specs.Names.{child_of, point_of, tetrahedron_of, IsName}
 use Rattle.tetra_name.specs.Steps.{is_member, long_axes, pairs, member_at, slot_at, child_pair, child_point, parent_which, parent_pair, parent_point, IsScalable}
-use Rattle.tetra_name.specs.Places.{InBox, IsUnit, IsPlace}
+use Rattle.tetra_name.specs.Places.{InBox, IsUnit, IsPlace, TellsMember}
+use Rattle.tetra_name.proofs.Rounds.{even_side}
 use Rattle.tetra_name.proofs.Closed.{Corners}
 use Rattle.tetra_name.proofs.MembersLaw.{cube_centre, face_centre, edge_centre}
 use Rattle.tetra_name.proofs.NamesLaw.{axes_within}
@@ -20,7 +21,7 @@ use Rattle.tetra_name.proofs.ChildLaw.{Child}
 use Rattle.tetra_name.proofs.Children.{cube_children, face_children, edge_children}
 use Rattle.tetra_name.proofs.ChildName.{name_of_closed}
 use Rattle.tetra_name.proofs.ParentLaw.{ParentIs, of_cube, of_face, of_edge}
-use Rattle.tetra_name.proofs.NameFacts.{child_at, child_of-some, child_at-level, some_is, name_level}
+use Rattle.tetra_name.proofs.NameFacts.{member-contains, child_at, child_of-some, child_at-level, some_is, name_level}
 
 -- r is the name of the parent of t, which is its child of this number
 pub record IsParent (L which : ℕ) (t r : Tet) : Type 0 where
@@ -207,3 +208,23 @@ module _ (L : ℕ) (t : Tet) (j N : ℕ) (u : Point) (q : ℕ × ℕ) (most : L 
 
   pub is_root : long_axes u ≡ 3 → j ≡ L → level_of L (point_of t.centre) ≡ 0
   is_root o e = omega (arith, level_of_scale L (point_of t.centre) j N u P.scale, o, e, P.scale.unit.sum, P.scale.unit.level)
+
+  tells : (M o : ℕ) → M % 2 ≡ 0 → ParentIs M o (parent_which u q) u q (parent_point u q) (parent_pair u q) → 0 < o → TellsMember M (parent_point u q) (parent_pair u q)
+  tells M o even A pos = record { box = A.inside; even = even; some = omega (arith, A.axes, pos); listed = member-contains pairs (parent_pair u q) A.has; valid = A.valid }
+
+  pub flat_tells : long_axes u ≢ 3 → TellsMember N (parent_point u q) (parent_pair u q)
+  flat_tells n = cases (long_axes u) refl where
+    even : N % 2 ≡ 0
+    even = ap (λ m. m % 2) P.scale.side ∙ even_side P.scale.k
+
+    cases : (o : ℕ) → long_axes u ≡ o → TellsMember N (parent_point u q) (parent_pair u q)
+    cases zero e = absurd (omega (arith, e, P.scale.unit.some))
+    cases (suc zero) e = tells N 2 even (above_edge e) (omega arith)
+    cases (suc (suc zero)) e = tells N 3 even (above_face e) (omega arith)
+    cases (suc (suc (suc zero))) e = absurd (n e)
+    cases (suc (suc (suc (suc o)))) e = absurd (omega (arith, e, axes_within u))
+
+  pub cube_tells : long_axes u ≡ 3 → j ≢ L → TellsMember (N / 2) (parent_point u q) (parent_pair u q)
+  cube_tells o n =
+      let low : j < L = omega (arith, n, P.scale.unit.sum) in
+      tells (N / 2) 1 (ap (λ m. m % 2) (half_is low) ∙ even_side (P.scale.k - 1)) (above_cube o low) (omega arith)

@@ -1,5 +1,5 @@
 -- Centres and tetrahedra in units. A unit is the greatest power of two in which all three coordinates of a centre are whole.
-use Rattle.std.specs.Prelude.{◌≡◌, ◌≤◌, ◌<◌, ◌+◌, ◌*◌, ◌^◌, ℕ, suc, Some, filter}
+use Rattle.std.specs.Prelude.{◌≡◌, ◌≤◌, ◌<◌, ◌+◌, ◌*◌, ◌^◌, ◌%◌, ℕ, suc, Some, Contains, filter, true}
 use Rattle.std.specs.List.{slice_get}
 use Rattle.tpz_base.specs.declared.shape.Point.{Point}
 use Rattle.tpz_base.specs.Points.{point_scale}
@@ -33,3 +33,11 @@ pub record IsScale (L : ℕ) (c : Point) (j N : ℕ) (u : Point) : Type 0 where
 pub record IsPlace (L : ℕ) (t : Tet) (j N : ℕ) (u : Point) (q : ℕ × ℕ) : Type 0 where
   pub scale : IsScale L (point_of t.centre) j N u
   pub slot : slice_get (filter (is_member N u) pairs) t.slot ≡ Some q
+
+-- the pair of directions tells a member of the diamond
+pub record TellsMember (N : ℕ) (u : Point) (q : ℕ × ℕ) : Type 0 where
+  pub box : InBox N u
+  pub even : N % 2 ≡ 0
+  pub some : 0 < long_axes u
+  pub listed : Contains pairs q
+  pub valid : is_member N u q ≡ true

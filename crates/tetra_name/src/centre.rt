@@ -1,8 +1,9 @@
 // Centres of diamonds: the test of one, the greatest unit in which one is whole, and its level.
-ghost use Rattle.std.specs.Prelude.{◌≡◌, ◌↔◌, ◌<◌, ◌≤◌, ◌*◌, IsTrue};
+ghost use Rattle.std.specs.Prelude.{◌%◌, ◌≡◌, ◌↔◌, ◌<◌, ◌≤◌, ◌*◌, IsTrue};
 ghost use Rattle.tpz_base.specs.Diamonds.{level_of};
 ghost use Rattle.tetra_name.specs.Names.{over, point_of, power_of, IsBound, IsCentre, IsWhole, IsWithin};
 ghost use Rattle.tetra_name.specs.Places.{IsScale};
+ghost use Rattle.tetra_name.specs.Steps.{long_axes};
 
 use crate::direction::long_axes;
 use crate::shape::Half;
@@ -72,6 +73,8 @@ pub(crate) fn scale_of(c: Half, l: u8) -> Scale
     ensures power { result.power ≤ l }
     ensures side { result.side ≤ 2147483648 }
     ensures within { IsWithin result.side (point_of result.point) }
+    ensures even { result.side % 2 ≡ 0 }
+    ensures some { 0 < long_axes (point_of result.point) }
 {
     let power = power(c);
     let side: u32 = 2 << (l - power as u8);

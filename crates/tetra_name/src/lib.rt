@@ -12,6 +12,7 @@ mod descent;
 mod direction;
 mod shape;
 mod slot;
+mod state;
 mod tuple;
 
 pub use adjacent::{kids_of, parents_of};

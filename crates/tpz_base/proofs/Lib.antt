@@ -23,5 +23,6 @@ mod ProductSums
 mod WorkedMeshes
 mod WorkedCollapses
 mod WorkedTetrahedra
+mod WorkedDiamonds
 mod CountsL1
 mod CountsL2

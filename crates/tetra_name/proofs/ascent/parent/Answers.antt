@@ -2,8 +2,10 @@ use Rattle.std.proofs.Common.{◌+◌, ◌/◌, ◌^◌, arith, sym, ◌∙◌, 
 use Rattle.tpz_base.specs.Points.{point_scale}
 use Rattle.tetra_name.specs.Names.{point_of}
 use Rattle.tetra_name.specs.Steps.{slot_at, parent_point, IsScalable}
+use Rattle.tetra_name.specs.Places.{TellsMember}
+use Rattle.tetra_name.proofs.Children.{both}
 use Rattle.tetra_name.proofs.PlaceLaw.{centre_of_name}
-use Rattle.tetra_name.proofs.ParentFacts.{IsParent, flat_scales, cube_scales, flat_named, cube_parent, is_root}
+use Rattle.tetra_name.proofs.ParentFacts.{flat_tells, cube_tells, IsParent, flat_scales, cube_scales, flat_named, cube_parent, is_root}
 use Rattle.tetra_name.proofs.ascent.parent.Goals as goal
 
 pub name_of-name-requires-clause-scalable : goal.name_of-name-requires-clause-scalable
@@ -47,3 +49,13 @@ returns c =
     (c.name_of-name-2.ensures.slot ∙ ap (λ u. slot_at (c.place_of-p.result.side / 2) u c.parent_pair-pair.result) c.parent_point-point.ensures
     ∙ ap (slot_at (c.place_of-p.result.side / 2) (parent_point (point_of c.place_of-p.result.point) c.place_of-p.result.pair)) c.parent_pair-pair.ensures.pair)) in
     record { root = (λ e. absurd (true≢false e), λ e. absurd (omega (arith, e, F.level))); name = F.name; centre = centre_of_name c.args.l _ F.name; which = F.few; child = F.child; level = F.level }
+
+pub name_of-name-requires-clause-member : goal.name_of-name-requires-clause-member
+name_of-name-requires-clause-member c =
+    both (TellsMember c.place_of-p.result.side) _ _ _ _ (sym c.parent_point-point.ensures) (sym c.parent_pair-pair.ensures.pair)
+    (flat_tells c.args.l c.args.t c.place_of-p.result.power c.place_of-p.result.side (point_of c.place_of-p.result.point) c.place_of-p.result.pair c.requires.bound.most c.place_of-p.ensures.place (λ e. c.if-long_axes-ne3.true (c.long_axes.ensures.axes ∙ e)))
+
+pub name_of-name-requires-2-clause-member : goal.name_of-name-requires-2-clause-member
+name_of-name-requires-2-clause-member c =
+    both (TellsMember (c.place_of-p.result.side / 2)) _ _ _ _ (sym c.parent_point-point.ensures) (sym c.parent_pair-pair.ensures.pair)
+    (cube_tells c.args.l c.args.t c.place_of-p.result.power c.place_of-p.result.side (point_of c.place_of-p.result.point) c.place_of-p.result.pair c.requires.bound.most c.place_of-p.ensures.place (sym c.long_axes.ensures.axes ∙ c.if-long_axes-ne3.false) c.if-p-l.false)

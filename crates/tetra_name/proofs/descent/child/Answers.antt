@@ -3,8 +3,10 @@ use Rattle.tpz_base.specs.Points.{point_scale}
 use Rattle.tetra_name.specs.Names.{point_of}
 use Rattle.tetra_name.specs.Steps.{IsScalable, slot_at, child_point}
 use Rattle.tetra_name.proofs.PlaceLaw.{centre_of_name}
+use Rattle.tetra_name.specs.Places.{TellsMember}
+use Rattle.tetra_name.proofs.Children.{both}
 use Rattle.tetra_name.proofs.NameFacts.{is_child}
-use Rattle.tetra_name.proofs.ChildFacts.{within, side_fits, edge_scales, edge_named, scales, named}
+use Rattle.tetra_name.proofs.ChildFacts.{tells, edge_tells, within, side_fits, edge_scales, edge_named, scales, named}
 use Rattle.tetra_name.proofs.descent.child.Goals as goal
 
 pub child_point-point-requires-clause-within : goal.child_point-point-requires-clause-within
@@ -45,3 +47,13 @@ returns-else-long_axes-eq1 c =
     (c.name_of-else-long_axes-eq1.ensures.slot ∙ ap (λ u. slot_at c.place_of-p.result.side u c.child_pair-pair.result) c.child_point-point.ensures ∙ ap (slot_at c.place_of-p.result.side (child_point c.args.which (point_of c.place_of-p.result.point) c.place_of-p.result.pair)) c.child_pair-pair.ensures.pair) in
     let k = is_child c.args.l c.args.which c.args.t c.name_of-else-long_axes-eq1.result c.requires.name same in
     record { child = same; name = k.name; centre = centre_of_name c.args.l _ k.name; level = k.level }
+
+pub name_of-requires-clause-member : goal.name_of-requires-clause-member
+name_of-requires-clause-member c =
+    both (TellsMember (2 * c.place_of-p.result.side)) _ _ _ _ (sym c.child_point-point.ensures) (sym c.child_pair-pair.ensures.pair)
+    (edge_tells c.args.l c.args.t c.place_of-p.result.power c.place_of-p.result.side (point_of c.place_of-p.result.point) c.place_of-p.result.pair c.requires.bound.most c.place_of-p.ensures.place c.requires.level c.args.which c.requires.which (sym c.long_axes.ensures.axes ∙ c.if-long_axes-eq1.true))
+
+pub name_of-requires-else-long_axes-eq1-clause-member : goal.name_of-requires-else-long_axes-eq1-clause-member
+name_of-requires-else-long_axes-eq1-clause-member c =
+    both (TellsMember c.place_of-p.result.side) _ _ _ _ (sym c.child_point-point.ensures) (sym c.child_pair-pair.ensures.pair)
+    (tells c.args.l c.args.t c.place_of-p.result.power c.place_of-p.result.side (point_of c.place_of-p.result.point) c.place_of-p.result.pair c.requires.bound.most c.place_of-p.ensures.place c.requires.level c.args.which c.requires.which (λ e. c.if-long_axes-eq1.false (c.long_axes.ensures.axes ∙ e)))
