@@ -23,6 +23,5 @@ mod ProductSums
 mod WorkedMeshes
 mod WorkedCollapses
 mod WorkedTetrahedra
-mod WorkedDiamonds
 mod CountsL1
 mod CountsL2
