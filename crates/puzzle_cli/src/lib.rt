@@ -17,6 +17,8 @@ mod part_buffer;
 mod part_text;
 mod root_order;
 mod status;
+#[cfg(test)]
+mod tests;
 mod words;
 
 use crate::words::asks_finest;
