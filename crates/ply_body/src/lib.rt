@@ -183,18 +183,18 @@ mod tests {
         let alloc = rt.alloc();
         // The input has more bytes than a reader takes at once, so a second read comes.
         let mut body = String::from_str(alloc, "")?;
-        for _ in 0..1000 {
+        for _ in 0..8000 {
             body.push_str("10 20 30/")?;
         }
         for k in 1..3 {
-            let outcome = read(alloc, input(alloc, "1000", "0", body.as_str())?, &[k])?;
+            let outcome = read(alloc, input(alloc, "8000", "0", body.as_str())?, &[k])?;
             assert_eq!(rt;
                 fault(&outcome),
                 Some(PlainFault::InputFault),
                 "at read {k}"
             );
         }
-        let outcome = read(alloc, input(alloc, "1000", "0", body.as_str())?, &[9])?;
+        let outcome = read(alloc, input(alloc, "8000", "0", body.as_str())?, &[9])?;
         assert_eq!(rt; fault(&outcome), None);
         Ok(())
     }
