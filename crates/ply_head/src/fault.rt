@@ -1,0 +1,37 @@
+// Why a header or a number is refused.
+
+/// Why a header isn't read. Each refusal has the number of its line, from 1, and is the first in the order of lines.
+#[derive(Clone, Copy, Debug, PartialEq, Eq)]
+pub enum HeadFault {
+    /// The first line isn't `ply`.
+    NotPly { line: u64 },
+    /// The line where the format is due names none that is known.
+    Format { line: u64 },
+    /// The line isn't ended, has no form that is known, or stands where it may not.
+    Line { line: u64 },
+    /// A type isn't known, or may not stand there.
+    TypeName { line: u64 },
+    /// At the end of the header: no element `vertex` with the scalars x, y and z.
+    NoVertex { line: u64 },
+    /// At the end of the header: no element `face` with a list of vertex indices behind the vertices.
+    NoFace { line: u64 },
+    /// At the end of the header: the format is binary, and x, y or z is a float.
+    FloatBinary { line: u64 },
+    /// More elements, properties, rows or bytes than are taken.
+    TooMany { line: u64 },
+    /// A read of the source failed.
+    InputFault,
+    /// Memory ran out.
+    Memory,
+}
+
+/// Why a text isn't a number that can be taken.
+#[derive(Clone, Copy, Debug, PartialEq, Eq)]
+pub enum NumberFault {
+    /// It isn't written as a number.
+    Form,
+    /// It has more than 30 significant digits.
+    Digits,
+    /// The scaled value is above 2,147,483,647 in absolute value.
+    Range,
+}
