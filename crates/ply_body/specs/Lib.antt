@@ -1,7 +1,5 @@
+pub mod Items
 pub mod Bodies
-pub mod Hulls
-pub mod Lines
-pub mod Numbers
-pub mod Places
-pub mod Plain
-pub mod Sorted
+pub mod Inputs
+pub mod Spots
+pub mod Readings

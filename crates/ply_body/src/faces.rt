@@ -1,121 +1,132 @@
-// The faces, taken from the front of the input, and their triangles.
-ghost use Rattle.std.specs.Prelude.{◌≡◌, ◌≤◌, ◌<◌, ◌+◌, ◌^◌, [], ◌∷◌, ◌++◌, List, length, IfOk, IsErrOf, OnOk};
-ghost use Rattle.std.specs.Option.{ForSome};
+// The triangles of an input.
+ghost use Rattle.std.specs.Prelude.{◌≡◌, ◌≢◌, ◌≤◌, ◌⊎◌, ◌+◌, ◌∷◌, ◌++◌, [], ℕ, List, All, length, Ok, Err, Some, None, false, IfOk, IsTrue, IsErrOf};
+ghost use Rattle.std.specs.Option.{ForSome, option_map};
 ghost use Rattle.tpz_io.specs.Causes.{Rose};
-ghost use Rattle.tpz_io.specs.Told.{ahead};
-ghost use Rattle.tpz_base.specs.Texts.{Face, face_line};
-ghost use Rattle.ply_body.specs.Lines.{NoLinesBegin};
-ghost use Rattle.ply_body.specs.Numbers.{NoneBegins};
-ghost use Rattle.ply_body.specs.Places.{face_of, places_line};
-ghost use Rattle.ply_body.specs.Plain.{triangle_at, IsFace};
-ghost use Rattle.ply_body.specs.Sorted.{HasFaces, SortsTri};
+ghost use Rattle.tpz_base.specs.declared.shape.Tri.{Tri};
+ghost use Rattle.tpz_base.specs.Cubes.{Row};
+ghost use Rattle.tpz_base.specs.Meshes.{is_whole};
+ghost use Rattle.tpz_base.specs.Texts.{Face};
+ghost use Rattle.ply_body.specs.declared.fault.BodyFault.{BodyFault};
+ghost use Rattle.ply_body.specs.declared.frame.Frame.{Frame};
+ghost use Rattle.ply_body.specs.Inputs.{points_of, triangle_at};
+ghost use Rattle.ply_body.specs.Spots.{HoldsPoints, HoldsRows, IsFrameOf, IsSmallFrame, IsTriInCube};
+ghost use Rattle.ply_body.specs.Readings.{coming_told, input_told, opened, with_faces, with_spots, GivesFace, GivesNone, IsOpened, IsRefusal};
 
-use crate::head::read_text;
-use crate::numbers::read_number;
-use crate::plain::PlainFault;
+use crate::fault::BodyFault;
+use crate::frame::Frame;
+use crate::item_reader::ItemReader;
+use crate::spots::PointBuffer;
+use ply_head::{Element, Head};
 use std::alloc::{AllocError, Global};
-use tpz_base::{Point, Tri, whole};
-use tpz_io::{Reader, Source};
+use std::marker::Model;
+use tpz_base::Tri;
+use tpz_io::{Blob, Source};
 
-/// The places of a triangle's corners among the rows.
-#[derive(Clone, Copy)]
-pub struct Corners {
-    pub i: u32,
-    pub j: u32,
-    pub k: u32,
-}
+// Stands for what isn't written yet.
+#[derive(Clone, Copy, Debug, PartialEq, Eq)]
+enum Never {}
 
-/// The whole triangles of faces, in order, and how many of the faces aren't whole.
+/// Reads the rows behind a header: first the points, which go to a blob, and then the triangles, one by one. Source and
+/// blob are lent to each call: give the same ones to all. After a refusal it answers the same refusal again and calls
+/// nothing.
 #[derive(Drop)]
-pub struct Sorted {
-    pub tris: Vec<Tri>,
-    pub dropped: u64,
+pub struct Faces {
+    items: ItemReader,
+    buffer: PointBuffer,
+    elements: Vec<Element>,
+    frame: Option<Frame>,
+    refusal: Option<BodyFault>,
+    dropped: u64,
+    never: Never,
 }
 
-impl Sorted {
-    // Keeps a triangle that is whole, and counts one that isn't.
-    fn add(&mut self, t: Tri) -> Result<(), AllocError>
-        requires { self.old.dropped + 1 < 2 ^ 64 }
-        ensures { OnOk result (SortsTri self.old self.new t) }
+impl Model for Faces {
+    ghost use Rattle.std.specs.Prelude.{[]};
+    ghost use Rattle.ply_body.specs.Readings.{start, Reading};
+
+    ghost Value = { Reading };
+
+    ghost view = { λ r. record {
+      setting = record { digits = 0; vertices = 0 };
+      place = r.items;
+      cursor = start [];
+      frame = r.frame;
+      refusal = r.refusal;
+      given = 0;
+      dropped = r.dropped;
+    } };
+}
+
+impl Faces {
+    /// Reads on behind a header, with coordinates scaled by 10^digits. Takes all its memory at once.
+    pub fn open(alloc: Global, head: Head, digits: u8) -> Result<Self, AllocError>
+        requires { digits ≤ 9 }
+        ensures { IfOk result (λ faces. faces ≡ opened head digits) }
     {
-        if whole(&t) {
-            self.tris.push(t)?;
-        } else {
-            self.dropped += 1;
-        }
-        Ok(())
+        Err(AllocError)
     }
-}
 
-// Takes the three places of a face's line, and its line feed.
-fn read_corners<I: Source>(
-    reader: &mut Reader,
-    src: &mut I,
-    rows: u32,
-) -> Result<Corners, PlainFault>
-    ensures corners { IfOk result (λ corners. ahead reader.old (I.left src.old)
-        ≡ ahead (places_line (face_of corners) ++ 10 ∷ []) (ahead reader.new (I.left src.new))) }
-    ensures fits { IfOk result (λ corners. IsFace rows (face_of corners)) }
-    ensures not_plain { IsErrOf result PlainFault.NotPlain
-        → ForSome (ahead reader.old (I.left src.old)) (NoneBegins (IsFace rows) places_line 10) }
-    ensures input { IsErrOf result PlainFault.InputFault → Rose (I.faults src.old) (I.faults src.new) }
-    ensures later { I.faults src.old ≤ I.faults src.new }
-{
-    let i = read_number(reader, src, rows, b' ')?;
-    let j = read_number(reader, src, rows, b' ')?;
-    let k = read_number(reader, src, rows, b'\n')?;
-    Ok(Corners { i, j, k })
-}
-
-// Takes the line of a face.
-fn read_face<I: Source>(reader: &mut Reader, src: &mut I, rows: u32) -> Result<Corners, PlainFault>
-    ensures face { IfOk result (λ corners. ahead reader.old (I.left src.old)
-        ≡ ahead (face_line (face_of corners) ++ 10 ∷ []) (ahead reader.new (I.left src.new))) }
-    ensures fits { IfOk result (λ corners. IsFace rows (face_of corners)) }
-    ensures not_plain { IsErrOf result PlainFault.NotPlain
-        → ForSome (ahead reader.old (I.left src.old)) (NoneBegins (IsFace rows) face_line 10) }
-    ensures input { IsErrOf result PlainFault.InputFault → Rose (I.faults src.old) (I.faults src.new) }
-    ensures later { I.faults src.old ≤ I.faults src.new }
-{
-    read_text(reader, src, b"3 ")?;
-    read_corners(reader, src, rows)
-}
-
-fn triangle(points: &[Point], corners: Corners) -> Tri
-    requires { IsFace (length points.now) (face_of corners) }
-    ensures { result ≡ triangle_at points.now (face_of corners) }
-{
-    Tri {
-        a: points[corners.i as usize],
-        b: points[corners.j as usize],
-        c: points[corners.k as usize],
+    /// Reads to the end of the used vertex element, and writes each point to the blob. It is the first call.
+    ///
+    /// An extent is tested when the last row of that element is read.
+    pub fn load_points<I: Source, B: Blob>(&mut self, src: &mut I, points: &mut B) -> Result<Frame, BodyFault>
+        requires { IsOpened self.old }
+        // The rows that were read, the frame, and the triangles that are still to come:
+        ensures rows { IfOk result (λ frame. (rows : List Row) × IsFrameOf frame rows
+            × (input_told self.old (I.left src.old) ≡ option_map (with_spots rows) (coming_told self.new (I.left src.new)))
+            × ForSome (B.held points.new) (HoldsRows rows)) }
+        ensures frame { IfOk result (λ frame. self.new.frame ≡ Some frame) }
+        ensures opened { IfOk result (λ frame. (self.new.refusal ≡ None) × (self.new.given ≡ 0) × (self.new.dropped ≡ 0)) }
+        // Each refusal has its cause, and stays.
+        ensures refused { (f : BodyFault) → result ≡ Err f → IsRefusal f → ForSome (input_told self.old (I.left src.old)) (λ input. input ≡ Err f) }
+        ensures kept { (f : BodyFault) → result ≡ Err f → self.new.refusal ≡ Some f }
+        ensures input { IsErrOf result BodyFault.InputFault → Rose (I.faults src.old) (I.faults src.new) }
+        ensures work { IsErrOf result BodyFault.WorkFault → Rose (B.faults points.old) (B.faults points.new) }
+        ensures damage { (offset : ℕ) → result ≡ Err (BodyFault.WorkDamage offset) → B.held points.old ≡ None }
+        ensures later { (I.faults src.old ≤ I.faults src.new) × (B.faults points.old ≤ B.faults points.new) }
+        // Whether source and blob tell their bytes or not:
+        ensures small { IfOk result IsSmallFrame }
+    {
+        match self.never {}
     }
-}
 
-/// Takes the lines of so many faces, each with three places among the points, and sorts their triangles.
-pub fn read_faces<I: Source>(
-    alloc: Global,
-    reader: &mut Reader,
-    src: &mut I,
-    points: &[Point],
-    count: u32,
-) -> Result<Sorted, PlainFault>
-    requires { length points.now ≤ 2147483648 }
-    ensures faces { IfOk result (λ sorted. (faces : List Face)
-        × HasFaces points.now count (ahead reader.old (I.left src.old)) (ahead reader.new (I.left src.new)) sorted faces) }
-    ensures not_plain { IsErrOf result PlainFault.NotPlain
-        → ForSome (ahead reader.old (I.left src.old)) (NoLinesBegin (IsFace (length points.now)) face_line count) }
-    ensures input { IsErrOf result PlainFault.InputFault → Rose (I.faults src.old) (I.faults src.new) }
-    ensures later { I.faults src.old ≤ I.faults src.new }
-{
-    let rows = points.len() as u32;
-    let mut sorted = Sorted {
-        tris: Vec::new(alloc),
-        dropped: 0,
-    };
-    'faces: for _ in 0..count {
-        let corners = read_face(reader, src, rows)?;
-        sorted.add(triangle(points, corners))?;
+    /// The next triangle that is whole, relative to `low`. None comes where all elements were read.
+    ///
+    /// The frame is the one that `load_points` gave, and the blob holds its points.
+    pub fn next_tri<I: Source, B: Blob>(&mut self, src: &mut I, frame: &Frame, points: &mut B) -> Result<Option<Tri>, BodyFault>
+        requires frame { (self.old.frame ≡ Some frame.now) ⊎ (self.old.refusal ≢ None) }
+        requires points { ForSome (B.held points.old) (HoldsPoints frame.now) }
+        ensures tri { (t : Tri) → result ≡ Ok (Some t) → (lost : List Face) × (face : Face)
+            × GivesFace self.old self.new (I.left src.old) (I.left src.new) lost face
+            × ForSome (B.held points.old) (λ bytes. (rows : List Row) → IsFrameOf frame.now rows → HoldsRows rows bytes
+            → All (λ f. is_whole (triangle_at (points_of rows) f) ≡ false) lost × (t ≡ triangle_at (points_of rows) face)) }
+        ensures end { result ≡ Ok None → (lost : List Face) × GivesNone self.old self.new (I.left src.old) lost
+            × ForSome (B.held points.old) (λ bytes. (rows : List Row) → IsFrameOf frame.now rows → HoldsRows rows bytes
+            → All (λ f. is_whole (triangle_at (points_of rows) f) ≡ false) lost) }
+        ensures frame { self.new.frame ≡ self.old.frame }
+        ensures opened { IfOk result (λ t. self.new.refusal ≡ None) }
+        // Each refusal has its cause, and stays.
+        ensures refused { (f : BodyFault) → result ≡ Err f → IsRefusal f
+            → (self.old.refusal ≡ Some f) ⊎ ForSome (coming_told self.old (I.left src.old)) (λ coming. coming ≡ Err f) }
+        ensures kept { (f : BodyFault) → result ≡ Err f → self.new.refusal ≡ Some f }
+        ensures again { (f : BodyFault) → self.old.refusal ≡ Some f → (result ≡ Err f) × (src.new ≡ src.old) × (points.new ≡ points.old) }
+        ensures input { IsErrOf result BodyFault.InputFault → (self.old.refusal ≡ Some BodyFault.InputFault) ⊎ Rose (I.faults src.old) (I.faults src.new) }
+        ensures work { IsErrOf result BodyFault.WorkFault → (self.old.refusal ≡ Some BodyFault.WorkFault) ⊎ Rose (B.faults points.old) (B.faults points.new) }
+        ensures damage { (offset : ℕ) → result ≡ Err (BodyFault.WorkDamage offset) → (self.old.refusal ≡ Some (BodyFault.WorkDamage offset)) ⊎ (B.held points.old ≡ None) }
+        ensures later { (I.faults src.old ≤ I.faults src.new) × (B.faults points.old ≤ B.faults points.new) }
+        ensures held { B.held points.new ≡ B.held points.old }
+        // Whether source and blob tell their bytes or not:
+        ensures whole { (t : Tri) → result ≡ Ok (Some t) → IsTrue (is_whole t) }
+        ensures cube { (t : Tri) → result ≡ Ok (Some t) → IsTriInCube frame.now.l t }
+        ensures few { self.new.given + self.new.dropped ≤ 2147483648 }
+    {
+        match self.never {}
     }
-    Ok(sorted)
+
+    /// How many triangles with two equal corners were dropped so far.
+    pub fn dropped(&self) -> u64
+        ensures { result ≡ self.now.dropped }
+    {
+        self.dropped
+    }
 }

@@ -1,0 +1,65 @@
+-- The points that a reader keeps in a blob, and the frame that tells of them.
+use Rattle.std.specs.Prelude.{◌≡◌, ℕ, ◌+◌, ◌*◌, ◌^◌, ◌≤◌, List, [], ◌∷◌, ◌++◌, length, take, flat_map, All, ℤ, unsigned_abs, Option}
+use Rattle.std.specs.Option.{ForSome}
+use Rattle.std.specs.Int.{w32, cast_unsigned}
+use Rattle.byteorder.specs.Endian.{little_bytes}
+use Rattle.tpz_base.specs.declared.shape.Point.{Point}
+use Rattle.tpz_base.specs.declared.shape.Tri.{Tri}
+use Rattle.tpz_base.specs.Cubes.{Row, low_of, level_bound, widest}
+use Rattle.tpz_base.specs.Texts.{Bytes}
+use Rattle.ply_body.specs.declared.frame.Frame.{Frame}
+use Rattle.ply_body.specs.declared.spots.Spot.{Spot}
+
+-- a coordinate in four bytes, the lowest first, in two's complement
+abbrev pub coordinate_bytes : ℤ → Bytes
+coordinate_bytes z = little_bytes 4 (cast_unsigned w32 z)
+
+abbrev pub row_bytes : Row → Bytes
+row_bytes r = coordinate_bytes r.x ++ coordinate_bytes r.y ++ coordinate_bytes r.z
+
+abbrev pub rows_bytes : List Row → Bytes
+rows_bytes rows = flat_map row_bytes rows
+
+abbrev pub coordinates : Row → List ℤ
+coordinates r = r.x ∷ r.y ∷ r.z ∷ []
+
+-- the row of three coordinates
+abbrev pub row_of : Spot → Row
+row_of s = record { x = s.x; y = s.y; z = s.z }
+
+-- The frame is that of these rows.
+pub record IsFrameOf (frame : Frame) (rows : List Row) : Type 0 where
+  pub l : frame.l ≡ level_bound rows
+  pub low : frame.low ≡ coordinates (low_of rows)
+  pub vertices : frame.vertices ≡ length rows
+  pub end : frame.end ≡ 12 * length rows
+  pub narrow : widest rows ≤ 2 ^ 30
+
+-- The bytes begin with those of the rows.
+abbrev pub HoldsRows : List Row → Bytes → Type 0
+HoldsRows rows bytes = take (length (rows_bytes rows)) bytes ≡ rows_bytes rows
+
+-- The rows are the first in what is told, and then those on their way: what is told, cut where these go, and then they.
+abbrev pub Keeps : List Row → Bytes → Option Bytes → Type 0
+Keeps rows way told = (written : List Row) × (later : List Row) × (rows ≡ written ++ later) × (way ≡ rows_bytes later) × ForSome told (HoldsRows written)
+
+-- The bytes hold the points of a frame: those of rows of which it is the frame.
+abbrev pub HoldsPoints : Frame → Bytes → Type 0
+HoldsPoints frame bytes = (rows : List Row) × IsFrameOf frame rows × HoldsRows rows bytes
+
+-- coordinates within a cube of level l
+pub record IsInCube (l : ℕ) (p : Point) : Type 0 where
+  pub x : p.x ≤ 2 ^ l
+  pub y : p.y ≤ 2 ^ l
+  pub z : p.z ≤ 2 ^ l
+
+pub record IsTriInCube (l : ℕ) (t : Tri) : Type 0 where
+  pub a : IsInCube l t.a
+  pub b : IsInCube l t.b
+  pub c : IsInCube l t.c
+
+-- the bounds of a frame, whatever was read
+pub record IsSmallFrame (frame : Frame) : Type 0 where
+  pub level : (1 ≤ frame.l) × (frame.l ≤ 30)
+  pub low : All (λ z. unsigned_abs z ≤ 2147483647) frame.low
+  pub end : frame.end ≤ 2 ^ 62
