@@ -4,3 +4,4 @@ pub mod NumberLemmas
 pub mod RootLoops
 pub mod WordLists
 pub mod Exports
+pub mod ReadLemmas

@@ -231,44 +231,6 @@ different-longer xs (y ∷ ys) =
     let whole : length (different ((xs ++ y ∷ []) ++ ys)) ≡ length (different (xs ++ y ∷ ys)) = ap (λ (l : List Point). length (different l)) same in
     omega (arith, one, more, whole)
 
--- a mesh with more triangles has no fewer vertices
-pub vertices-longer : (M N : Mesh) → length (vertices M) ≤ length (vertices (M ++ N))
-unfolding vertices
-vertices-longer M N =
-    rw (flat_map-append (λ (s : Tri). s.a ∷ s.b ∷ s.c ∷ []) M N) (different-longer (corners_of M) (corners_of N))
-
--- the keys so far are no more than the vertices with the triangle
-module _ (ks : List Point) (M : Mesh) (t : Tri) (keys : ks ≡ vertices M) (few : length (vertices (M ++ t ∷ [])) ≤ 2147483648) where
-  whole_keys : length (vertices (M ++ t ∷ [])) ≡ length (insert_key point_eq (insert_key point_eq (insert_key point_eq ks t.a) t.b) t.c)
-  whole_keys = rw keys (ap length (vertices_push M t))
-
-  pub few_keys : length ks < 2 ^ 32
-  few_keys =
-      omega (
-        arith,
-        whole_keys,
-        few,
-        insert_key-longer ks t.a,
-        insert_key-longer (insert_key point_eq ks t.a) t.b,
-        insert_key-longer (insert_key point_eq (insert_key point_eq ks t.a) t.b) t.c,
-      )
-
-  pub few_keys_1 : (k1 : List Point) → k1 ≡ insert_key point_eq ks t.a → length k1 < 2 ^ 32
-  few_keys_1 k1 s1 =
-      omega (
-        arith,
-        whole_keys,
-        few,
-        ap length s1,
-        insert_key-longer (insert_key point_eq ks t.a) t.b,
-        insert_key-longer (insert_key point_eq (insert_key point_eq ks t.a) t.b) t.c,
-      )
-
-  pub few_keys_2 : (k1 k2 : List Point) → k1 ≡ insert_key point_eq ks t.a → k2 ≡ insert_key point_eq k1 t.b → length k2 < 2 ^ 32
-  few_keys_2 k1 k2 s1 s2 =
-      let both : length k2 ≡ length (insert_key point_eq (insert_key point_eq ks t.a) t.b) = ap length (s2 ∙ ap (λ (l : List Point). insert_key point_eq l t.b) s1) in
-      omega (arith, whole_keys, few, both, insert_key-longer (insert_key point_eq (insert_key point_eq ks t.a) t.b) t.c)
-
 numbered_mesh-is : (n : Numbered) (M : Mesh) → HasCorners n.vertices.keys M → map face_of n.faces.items ≡ map (face_in n.vertices.keys) M → numbered_mesh n ≡ M
 unfolding numbered_mesh
 numbered_mesh-is n M there faces = mesh_is n.vertices.keys n.faces.items M there faces

@@ -11,8 +11,7 @@ use Rattle.tpz_base.specs.declared.shape.Tri.{Tri}
 use Rattle.tpz_base.specs.Meshes.{Mesh}
 use Rattle.tpz_base.specs.Roots.{corner_sum, root_slot, is_in_root, root_part, roots_parts, mesh_by_roots}
 use Rattle.tpz_base.specs.Texts.{vertices}
-use Rattle.puzzle_cli.specs.Numbering.{FewVertices, is_outside}
-use Rattle.puzzle_cli.proofs.NumberLemmas.{vertices-longer}
+use Rattle.puzzle_cli.specs.Numbering.{is_outside}
 
 pub in_root : (t : Tri) (place : ℕ) → root_slot (corner_sum t) ≡ place → root_part (t ∷ []) place ≡ t ∷ []
 unfolding is_in_root
@@ -27,25 +26,11 @@ part_more : (M : Mesh) (i : ℕ) (d : Tri) (place : ℕ) → i < length M
     → root_part (take (i + 1) M) place ≡ root_part (take i M) place ++ root_part (get_or M i d ∷ []) place
 part_more M i d place h = ap (filter (is_in_root place)) (take_more M i d h) ∙ filter-append (is_in_root place) (take i M) (get_or M i d ∷ [])
 
--- what is in front of few vertices has few
-few_front : (M N whole : Mesh) → whole ≡ M ++ N → FewVertices whole → FewVertices M
-few_front M N whole same few = omega (arith, vertices-longer M N, ap (λ (l : Mesh). length (vertices l)) same, few)
-
 module _ (old now tris : Mesh) (i : ℕ) (d : Tri) (place : ℕ) (so_far : now ≡ old ++ root_part (take i tris) place) (h : i < length tris) where
   front : now ++ root_part (get_or tris i d ∷ []) place ≡ old ++ root_part (take (i + 1) tris) place
   front =
       ap (λ (l : Mesh). l ++ root_part (get_or tris i d ∷ []) place) so_far ∙ append_assoc old (root_part (take i tris) place) (root_part (get_or tris i d ∷ []) place)
       ∙ ap (λ (l : Mesh). old ++ l) (sym (part_more tris i d place h))
-
-  pub few_more : FewVertices (old ++ root_part tris place) → FewVertices (now ++ root_part (get_or tris i d ∷ []) place)
-  few_more few =
-      let part = root_part (take (i + 1) tris) place in
-      let rest = root_part (drop (i + 1) tris) place in
-      let split : root_part tris place ≡ part ++ rest =
-      ap (λ (l : Mesh). root_part l place) (sym (take-append-drop (i + 1) tris)) ∙ filter-append (is_in_root place) (take (i + 1) tris) (drop (i + 1) tris) in
-      let whole : old ++ root_part tris place ≡ (now ++ root_part (get_or tris i d ∷ []) place) ++ rest =
-      ap (λ (l : Mesh). old ++ l) split ∙ sym (append_assoc old part rest) ∙ ap (λ (l : Mesh). l ++ rest) (sym front) in
-      few_front (now ++ root_part (get_or tris i d ∷ []) place) rest (old ++ root_part tris place) whole few
 
   pub mesh_more : (new : Mesh) → new ≡ now ++ root_part (get_or tris i d ∷ []) place → new ≡ old ++ root_part (take (i + 1) tris) place
   mesh_more new added = added ∙ front
@@ -58,21 +43,6 @@ pub roots_parts_more : (M : Mesh) (n : ℕ) → roots_parts M (n + 1) ≡ roots_
 roots_parts_more M n =
     ap (flat_map (root_part M)) (range_more 0 n) ∙ flat_map-append (root_part M) (range_with_len 0 n) ((0 + n) ∷ [])
     ∙ ap (λ (l : Mesh). roots_parts M n ++ l) (append-nil (root_part M (0 + n)) ∙ ap (root_part M) (zero-add n))
-
-few_up : (M : Mesh) (n k : ℕ) → FewVertices (roots_parts M (n + k)) → FewVertices (roots_parts M n)
-few_up M n zero few = subst (λ (m : ℕ). FewVertices (roots_parts M m)) (add-zero n) few
-few_up M n (suc k) few =
-    let last : n + suc k ≡ (n + k) + 1 = omega arith in
-    few_up M n k (few_front (roots_parts M (n + k)) (root_part M (n + k)) (roots_parts M (n + suc k))
-    (ap (roots_parts M) last ∙ roots_parts_more M (n + k)) few)
-
-pub few_roots : (M now : Mesh) (n : ℕ) → now ≡ roots_parts M n → n < 6 → FewVertices (mesh_by_roots M) → FewVertices (now ++ root_part M n)
-unfolding mesh_by_roots
-few_roots M now n so_far h few =
-    let six : 6 ≡ (n + 1) + (6 - (n + 1)) = omega arith in
-    let all : FewVertices (roots_parts M ((n + 1) + (6 - (n + 1)))) = subst (λ (m : ℕ). FewVertices (roots_parts M m)) six few in
-    let more = few_up M (n + 1) (6 - (n + 1)) all in
-    subst (λ (l : Mesh). FewVertices l) (roots_parts_more M n ∙ ap (λ (l : Mesh). l ++ root_part M n) (sym so_far)) more
 
 pub roots_more : (M now new : Mesh) (n : ℕ) → now ≡ roots_parts M n → new ≡ now ++ root_part M n → new ≡ roots_parts M (n + 1)
 roots_more M now new n so_far added = added ∙ ap (λ (l : Mesh). l ++ root_part M n) so_far ∙ sym (roots_parts_more M n)
@@ -111,11 +81,6 @@ pub later_parts : (M now new : Mesh) (n : ℕ) → ((k : ℕ) → n ≤ k → ro
     → (k : ℕ) → n + 1 ≤ k → root_part new k ≡ root_part M k
 later_parts M now new n there gone k later =
     ap (λ (l : Mesh). root_part l k) gone ∙ root_part-without now n k (λ e. omega (arith, e, later)) ∙ there k (omega arith)
-
-pub few_here : (M now done : Mesh) (n : ℕ) → done ≡ roots_parts M n → n < 6 → ((k : ℕ) → n ≤ k → root_part now k ≡ root_part M k)
-    → FewVertices (mesh_by_roots M) → FewVertices (done ++ root_part now n)
-few_here M now done n so_far h there few =
-    subst (λ (l : Mesh). FewVertices (done ++ l)) (sym (there n (omega arith))) (few_roots M done n so_far h few)
 
 pub roots_here : (M now done new : Mesh) (n : ℕ) → done ≡ roots_parts M n → ((k : ℕ) → n ≤ k → root_part now k ≡ root_part M k)
     → new ≡ done ++ root_part now n → new ≡ roots_parts M (n + 1)

@@ -26,10 +26,6 @@ pub record IsNumbering (n : Numbered) : Type 0 where
   pub keys : n.vertices.keys ≡ vertices (numbered_mesh n)
   pub faces : map face_of n.faces.items ≡ map (face_in (vertices (numbered_mesh n))) (numbered_mesh n)
 
--- a mesh has at most so many vertices
-abbrev pub FewVertices : Mesh → Type 0
-FewVertices M = length (vertices M) ≤ 2147483648
-
 -- t isn't in the root at this place
 unfoldable pub is_outside : ℕ → Tri → Bool
 is_outside place t = not (is_in_root place t)

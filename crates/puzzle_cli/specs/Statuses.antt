@@ -1,20 +1,101 @@
 -- The exit status and the line on standard error of each way in which a run ends.
-use Rattle.std.specs.Prelude.{ℕ, List, codes}
+use Rattle.std.specs.Prelude.{ℕ, ℤ, List, ◌++◌, codes, decimal}
+use Rattle.std.specs.Fmt.{signed_decimal}
+use Rattle.ply_head.specs.declared.fault.HeadFault.{HeadFault}
+use Rattle.ply_head.specs.declared.fault.HeadFault.TheVariants as head
+use Rattle.ply_body.specs.declared.fault.BodyFault.{BodyFault}
+use Rattle.ply_body.specs.declared.fault.BodyFault.TheVariants as body
+use Rattle.ply_body.specs.Inputs.{Refusal, InHead, InBody}
 use Rattle.puzzle_cli.specs.declared.status.Status.{Status}
-use Rattle.puzzle_cli.specs.declared.status.Status.TheVariants.{Ok, Usage, NotPlain, InputFault, OutFault, Memory}
+use Rattle.puzzle_cli.specs.declared.status.Status.TheVariants.{Ok, Usage, BadInput, Extent, InputFault, WorkFault, WorkDamage, OutFault, Memory}
+use Rattle.puzzle_cli.specs.declared.status.InputKind.{InputKind}
+use Rattle.puzzle_cli.specs.declared.status.InputKind.TheVariants as kind
+use Rattle.puzzle_cli.specs.declared.status.Place.{Place}
+use Rattle.puzzle_cli.specs.declared.status.Place.TheVariants.{Line, Row}
 
 abbrev pub code_of : Status → ℕ
 code_of Ok = 0
 code_of Usage = 2
-code_of NotPlain = 3
+code_of (BadInput kind place) = 3
+code_of (Extent axis least greatest) = 4
 code_of InputFault = 5
+code_of WorkFault = 8
+code_of (WorkDamage offset) = 9
 code_of OutFault = 14
 code_of Memory = 16
+
+-- the name of a refusal; that of an index has the index behind it
+abbrev pub kind_text : InputKind → List ℕ
+kind_text kind.NotPly = codes "NotPly"
+kind_text kind.Format = codes "Format"
+kind_text kind.Line = codes "Line"
+kind_text kind.TypeName = codes "TypeName"
+kind_text kind.NoVertex = codes "NoVertex"
+kind_text kind.NoFace = codes "NoFace"
+kind_text kind.FloatBinary = codes "FloatBinary"
+kind_text kind.TooMany = codes "TooMany"
+kind_text kind.Short = codes "Short"
+kind_text kind.Number = codes "Number"
+kind_text kind.Range = codes "Range"
+kind_text (kind.BadIndex index) = codes "BadIndex " ++ signed_decimal index
+kind_text kind.TooManyTris = codes "TooManyTris"
+kind_text kind.TooLong = codes "TooLong"
+
+abbrev pub place_text : Place → List ℕ
+place_text (Line line) = codes "line " ++ decimal line
+place_text (Row element row) = codes "element " ++ (decimal element ++ (codes " row " ++ decimal row))
 
 abbrev pub line_of : Status → List ℕ
 line_of Ok = codes ""
 line_of Usage = codes "tpz: usage: tpz FOLDER COMMAND [--NAME VALUE]"
-line_of NotPlain = codes "tpz: input is not plain"
+line_of (BadInput kind place) = codes "tpz: bad input: " ++ (kind_text kind ++ (codes " at " ++ place_text place))
+line_of (Extent axis least greatest) =
+    codes "tpz: extent: axis " ++ (decimal axis ++ (codes " from " ++ (signed_decimal least ++ (codes " to " ++ (signed_decimal greatest ++ codes "; use fewer --digits")))))
 line_of InputFault = codes "tpz: input failed"
+line_of WorkFault = codes "tpz: work file failed"
+line_of (WorkDamage offset) = codes "tpz: work file damaged at " ++ decimal offset
 line_of OutFault = codes "tpz: output failed"
 line_of Memory = codes "tpz: out of memory"
+
+-- The status of each fault of the header and of the rows.
+abbrev pub head_status : HeadFault → Status
+head_status (head.NotPly line) = BadInput kind.NotPly (Line line)
+head_status (head.Format line) = BadInput kind.Format (Line line)
+head_status (head.Line line) = BadInput kind.Line (Line line)
+head_status (head.TypeName line) = BadInput kind.TypeName (Line line)
+head_status (head.NoVertex line) = BadInput kind.NoVertex (Line line)
+head_status (head.NoFace line) = BadInput kind.NoFace (Line line)
+head_status (head.FloatBinary line) = BadInput kind.FloatBinary (Line line)
+head_status (head.TooMany line) = BadInput kind.TooMany (Line line)
+head_status head.InputFault = InputFault
+head_status head.Memory = Memory
+
+abbrev pub body_status : BodyFault → Status
+body_status (body.Short element row) = BadInput kind.Short (Row element row)
+body_status (body.Number element row) = BadInput kind.Number (Row element row)
+body_status (body.Range element row) = BadInput kind.Range (Row element row)
+body_status (body.BadIndex element row index) = BadInput (kind.BadIndex index) (Row element row)
+body_status (body.Extent axis least greatest) = Extent axis least greatest
+body_status (body.TooManyTris element row) = BadInput kind.TooManyTris (Row element row)
+body_status (body.TooLong element row) = BadInput kind.TooLong (Row element row)
+body_status body.InputFault = InputFault
+body_status body.WorkFault = WorkFault
+body_status (body.WorkDamage offset) = WorkDamage offset
+
+-- the status of a refusal of the input
+abbrev pub status_of : Refusal → Status
+status_of (InHead f) = head_status f
+status_of (InBody f) = body_status f
+
+-- the input was refused
+abbrev pub IsRefused : Status → Type 0
+IsRefused (BadInput kind place) = Unit {0}
+IsRefused (Extent axis least greatest) = Unit {0}
+IsRefused _ = ⊥
+
+-- what reading an input may end with, other than its mesh
+abbrev pub IsUnread : Status → Type 0
+IsUnread Ok = ⊥
+IsUnread Usage = ⊥
+IsUnread OutFault = ⊥
+IsUnread _ = Unit {0}

@@ -1,22 +1,21 @@
 // The command `finest`.
-ghost use Rattle.std.specs.Prelude.{◌≡◌, ◌≤◌, ◌⊎◌, List, [], OnOk, IfOk, IsErrOf, string_bytes};
+ghost use Rattle.std.specs.Prelude.{◌≡◌, ◌≤◌, ◌⊎◌, ℕ, List, [], Ok, Err, None, OnOk, IfOk, IsErrOf, string_bytes};
 ghost use Rattle.std.specs.Option.{ForSome};
 ghost use Rattle.tpz_io.specs.Causes.{Rose};
 ghost use Rattle.tpz_io.specs.Writes.{Wrote, WrotePrefix};
 ghost use Rattle.tpz_base.specs.Cubes.{Row};
-ghost use Rattle.tpz_base.specs.Roots.{mesh_by_roots};
 ghost use Rattle.tpz_base.specs.Texts.{Face};
-ghost use Rattle.ply_body.specs.Plain.{IsPlain, StartsPlain};
-ghost use Rattle.puzzle_cli.specs.Finest.{finest_items, finest_note, items_of};
-ghost use Rattle.puzzle_cli.specs.Numbering.{FewVertices};
+ghost use Rattle.ply_body.specs.Inputs.{Refusal, default_input};
+ghost use Rattle.puzzle_cli.specs.Finest.{digits_of, finest_items, finest_note, items_of, IsAccepted};
 ghost use Rattle.puzzle_cli.specs.Parts.{IsLow};
+ghost use Rattle.puzzle_cli.specs.Statuses.{status_of, IsRefused};
 
 use crate::Status;
 use crate::numbering::number_by_roots;
 use crate::part_text::{WriteFault, write_part};
-use ply_body::{Plain, PlainFault, read_plain};
+use crate::reading::{InputMesh, read_mesh};
 use std::alloc::{AllocError, Global};
-use tpz_io::{Out, Source};
+use tpz_io::{Blob, Out, Source};
 
 // The note: how many triangles the input has, how many were dropped, and how many vertices were written.
 fn note_line(
@@ -31,48 +30,55 @@ fn note_line(
 }
 
 // Writes the part and the note of what was read.
-fn export<O: Out>(alloc: Global, plain: Plain, out: &mut O) -> Result<(), WriteFault>
-    requires low { IsLow plain.low }
-    requires few { FewVertices (mesh_by_roots plain.tris.items) }
-    ensures ok { OnOk result (Wrote (items_of plain) (O.parts out.old) (O.parts out.new) (O.notes out.old) (O.notes out.new)) }
-    ensures front { WrotePrefix (items_of plain) (O.parts out.old) (O.parts out.new) (O.notes out.old) (O.notes out.new) }
+fn export<O: Out>(alloc: Global, input: InputMesh, out: &mut O) -> Result<(), WriteFault>
+    requires { IsLow input.low }
+    ensures ok { OnOk result (Wrote (items_of input) (O.parts out.old) (O.parts out.new) (O.notes out.old) (O.notes out.new)) }
+    ensures front { WrotePrefix (items_of input) (O.parts out.old) (O.parts out.new) (O.notes out.old) (O.notes out.new) }
     ensures later { O.faults out.old ≤ O.faults out.new }
     ensures out { IsErrOf result WriteFault.OutFault → Rose (O.faults out.old) (O.faults out.new) }
 {
-    let count = plain.tris.as_slice().len();
-    let mesh = number_by_roots(alloc, plain.tris)?;
+    let count = input.tris.as_slice().len();
+    let mesh = number_by_roots(alloc, input.tris)?;
     let vertices = mesh.vertices.as_slice();
-    let line = note_line(alloc, count, plain.dropped, vertices.len())?;
-    write_part(alloc, out, &mesh, &plain.low)?;
+    let line = note_line(alloc, count, input.dropped, vertices.len())?;
+    write_part(alloc, out, &mesh, input.digits, &input.low)?;
     out.note(line.as_bytes())?;
     Ok(())
 }
 
-/// Reads a plain input, and writes its mesh with the triangles root by root.
-pub fn finest<I: Source, O: Out>(alloc: Global, input: &mut I, out: &mut O) -> Status
+/// Reads an input, and writes its mesh with the triangles root by root.
+pub fn finest<I: Source, W: Blob, O: Out>(
+    alloc: Global,
+    input: &mut I,
+    work: &mut W,
+    out: &mut O,
+) -> Status
     ensures asked { ¬ (result ≡ Status.Usage) }
-    ensures ok { result ≡ Status.Ok → ForSome (I.left input.old) (λ bytes. (rows : List Row) (faces : List Face) → StartsPlain rows faces bytes
-        → Wrote (finest_items rows faces) (O.parts out.old) (O.parts out.new) (O.notes out.old) (O.notes out.new)) }
-    ensures not_plain { result ≡ Status.NotPlain → ForSome (I.left input.old) (λ bytes. ¬ IsPlain bytes) }
-    ensures plain { (result ≡ Status.Ok) ⊎ (result ≡ Status.OutFault) → ForSome (I.left input.old) IsPlain }
+    ensures ok { result ≡ Status.Ok → ForSome (I.left input.old) (λ bytes. ForSome (W.held work.new) (λ _. (rows : List Row) (faces : List Face)
+        → default_input bytes ≡ Ok (record { rows = rows; faces = faces })
+        → Wrote (finest_items (digits_of bytes) rows faces) (O.parts out.old) (O.parts out.new) (O.notes out.old) (O.notes out.new))) }
+    ensures refused { IsRefused result → ForSome (I.left input.old) (λ bytes. (r : Refusal) × (default_input bytes ≡ Err r) × (result ≡ status_of r)) }
+    ensures accepted { (result ≡ Status.Ok) ⊎ (result ≡ Status.OutFault) → ForSome (I.left input.old) IsAccepted }
     ensures input_fault { result ≡ Status.InputFault → Rose (I.faults input.old) (I.faults input.new) }
+    ensures work_fault { result ≡ Status.WorkFault → Rose (W.faults work.old) (W.faults work.new) }
+    ensures work_damage { (offset : ℕ) → result ≡ Status.WorkDamage offset → W.held work.new ≡ None }
     ensures out_fault { result ≡ Status.OutFault → Rose (O.faults out.old) (O.faults out.new) }
     ensures input_later { I.faults input.old ≤ I.faults input.new }
+    ensures work_later { W.faults work.old ≤ W.faults work.new }
     ensures out_later { O.faults out.old ≤ O.faults out.new }
-    ensures front { ForSome (I.left input.old) (λ bytes. (rows : List Row) (faces : List Face) → StartsPlain rows faces bytes
-        → WrotePrefix (finest_items rows faces) (O.parts out.old) (O.parts out.new) (O.notes out.old) (O.notes out.new)) }
-    ensures refused { ForSome (I.left input.old) (λ bytes. ¬ IsPlain bytes
+    ensures front { ForSome (I.left input.old) (λ bytes. ForSome (W.held work.new) (λ _. (rows : List Row) (faces : List Face)
+        → default_input bytes ≡ Ok (record { rows = rows; faces = faces })
+        → WrotePrefix (finest_items (digits_of bytes) rows faces) (O.parts out.old) (O.parts out.new) (O.notes out.old) (O.notes out.new))) }
+    ensures unaccepted { ForSome (I.left input.old) (λ bytes. ¬ IsAccepted bytes
         → Wrote [] (O.parts out.old) (O.parts out.new) (O.notes out.old) (O.notes out.new)) }
-    ensures unread { (result ≡ Status.NotPlain) ⊎ (result ≡ Status.InputFault)
+    ensures unread { ¬ (result ≡ Status.Ok) → ¬ (result ≡ Status.OutFault) → ¬ (result ≡ Status.Memory)
         → Wrote [] (O.parts out.old) (O.parts out.new) (O.notes out.old) (O.notes out.new) }
 {
-    let plain = match read_plain(alloc, input) {
-        Ok(plain) => plain,
-        Err(PlainFault::NotPlain) => return Status::NotPlain,
-        Err(PlainFault::InputFault) => return Status::InputFault,
-        Err(PlainFault::Memory) => return Status::Memory,
+    let mesh = match read_mesh(alloc, input, work) {
+        Ok(mesh) => mesh,
+        Err(status) => return status,
     };
-    match export(alloc, plain, out) {
+    match export(alloc, mesh, out) {
         Ok(()) => Status::Ok,
         Err(WriteFault::OutFault) => Status::OutFault,
         Err(WriteFault::Memory) => Status::Memory,

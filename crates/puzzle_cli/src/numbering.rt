@@ -4,7 +4,7 @@ ghost use Rattle.indexmap.specs.IndexSet.{insert_key};
 ghost use Rattle.tpz_base.specs.Points.{point_eq};
 ghost use Rattle.tpz_base.specs.Roots.{root_part, mesh_by_roots};
 ghost use Rattle.tpz_base.specs.Texts.{number_in};
-ghost use Rattle.puzzle_cli.specs.Numbering.{numbered_mesh, is_outside, IsNumbering, FewVertices};
+ghost use Rattle.puzzle_cli.specs.Numbering.{numbered_mesh, is_outside, IsNumbering};
 
 use crate::root_order::root_place;
 use indexmap::IndexSet;
@@ -26,13 +26,19 @@ pub struct Numbered {
     pub faces: Vec<Corners>,
 }
 
-// The number of p, which is a new one at the end where p wasn't there.
+// The greatest number of a point.
+const MOST: usize = 4_294_967_295;
+
+// The number of p, which is a new one at the end where p wasn't there. Numbers have 32 bits; for more points there is no
+// room. The points of an input are fewer.
 fn number(vertices: &mut IndexSet<Point>, p: Point) -> Result<u32, AllocError>
-    requires { length vertices.old.keys < 2 ^ 32 }
     ensures keys { OnOk result (vertices.new.keys ≡ insert_key point_eq vertices.old.keys p) }
     ensures number { IfOk result (λ n. n ≡ number_in vertices.new.keys p) }
 {
     let (index, _) = vertices.insert_full(p)?;
+    if index > MOST {
+        return Err(AllocError);
+    }
     Ok(index as u32)
 }
 
@@ -50,8 +56,7 @@ impl Numbered {
 
     // Adds a triangle at the end of the mesh.
     fn add(&mut self, t: &Tri) -> Result<(), AllocError>
-        requires numbering { IsNumbering self.old }
-        requires few { FewVertices (numbered_mesh self.old ++ t.now ∷ []) }
+        requires { IsNumbering self.old }
         ensures mesh { OnOk result (numbered_mesh self.new ≡ numbered_mesh self.old ++ t.now ∷ []) }
         ensures numbering { OnOk result (IsNumbering self.new) }
     {
@@ -65,8 +70,7 @@ impl Numbered {
     // Adds a triangle at the end of the mesh where it is in this root.
     #[tactic(auto, using(crate::proofs::RootLoops::in_root, crate::proofs::RootLoops::not_in_root))]
     fn add_in_root(&mut self, t: &Tri, place: u8) -> Result<(), AllocError>
-        requires numbering { IsNumbering self.old }
-        requires few { FewVertices (numbered_mesh self.old ++ root_part (t.now ∷ []) place) }
+        requires { IsNumbering self.old }
         ensures mesh { OnOk result (numbered_mesh self.new ≡ numbered_mesh self.old ++ root_part (t.now ∷ []) place) }
         ensures numbering { OnOk result (IsNumbering self.new) }
     {
@@ -78,8 +82,7 @@ impl Numbered {
 
     // Adds the triangles of a root, in order, at the end of the mesh.
     fn add_root(&mut self, tris: &[Tri], place: u8) -> Result<(), AllocError>
-        requires numbering { IsNumbering self.old }
-        requires few { FewVertices (numbered_mesh self.old ++ root_part tris.now place) }
+        requires { IsNumbering self.old }
         ensures mesh { OnOk result (numbered_mesh self.new ≡ numbered_mesh self.old ++ root_part tris.now place) }
         ensures numbering { OnOk result (IsNumbering self.new) }
     {
@@ -109,7 +112,6 @@ fn let_go(tris: &mut Vec<Tri>, place: u8)
 /// The triangles of each root in turn, with their vertices numbered in the order of first use. The triangles of a root are
 /// let go once they are numbered, so that a mesh of many roots is never held twice.
 pub fn number_by_roots(alloc: Global, mut tris: Vec<Tri>) -> Result<Numbered, AllocError>
-    requires { FewVertices (mesh_by_roots tris.items) }
     ensures mesh { IfOk result (λ numbered. numbered_mesh numbered ≡ mesh_by_roots tris.items) }
     ensures numbering { IfOk result IsNumbering }
 {

@@ -150,20 +150,21 @@ fn write_text<O: Out>(
     out: &mut O,
     buffer: &mut PartBuffer,
     mesh: &Numbered,
+    digits: u8,
     low: &[i64; 3],
 ) -> Result<(), Failed>
     requires opened { IsTrue (O.is_open out.old) }
     requires near { IsLow low.now }
     requires empty { buffer.old ≡ [] }
     ensures opened { OnOk result (IsTrue (O.is_open out.new)) }
-    ensures bytes { OnOk result (O.unfinished out.new ≡ followed_by (O.unfinished out.old) (mesh_text 0 (row_of low.now) mesh.now)) }
+    ensures bytes { OnOk result (O.unfinished out.new ≡ followed_by (O.unfinished out.old) (mesh_text digits (row_of low.now) mesh.now)) }
     ensures parts { O.parts out.new ≡ O.parts out.old }
     ensures notes { O.notes out.new ≡ O.notes out.old }
     ensures cause { HasCause (O.faults out.old) (O.faults out.new) result }
 {
     let vertices = mesh.vertices.as_slice();
     let faces = mesh.faces.as_slice();
-    push_head(buffer, 0, vertices.len(), faces.len());
+    push_head(buffer, digits, vertices.len(), faces.len());
     write_vertices(out, buffer, vertices, low)?;
     write_faces(out, buffer, faces)?;
     buffer.flush(out)?;
@@ -176,10 +177,11 @@ pub fn write_part<O: Out>(
     alloc: Global,
     out: &mut O,
     mesh: &Numbered,
+    digits: u8,
     low: &[i64; 3],
 ) -> Result<(), WriteFault>
     requires { IsLow low.now }
-    ensures part { OnOk result (O.parts out.new ≡ followed_by (O.parts out.old) (mesh_text 0 (row_of low.now) mesh.now ∷ [])) }
+    ensures part { OnOk result (O.parts out.new ≡ followed_by (O.parts out.old) (mesh_text digits (row_of low.now) mesh.now ∷ [])) }
     ensures err { OnErr result (O.parts out.new ≡ O.parts out.old) }
     ensures notes { O.notes out.new ≡ O.notes out.old }
     ensures later { O.faults out.old ≤ O.faults out.new }
@@ -187,7 +189,7 @@ pub fn write_part<O: Out>(
 {
     let mut buffer = PartBuffer::new(alloc)?;
     out.part()?;
-    write_text(out, &mut buffer, mesh, low)?;
+    write_text(out, &mut buffer, mesh, digits, low)?;
     out.finish()?;
     Ok(())
 }

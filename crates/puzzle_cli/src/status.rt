@@ -1,7 +1,38 @@
 // What a run ends with.
-ghost use Rattle.std.specs.Prelude.{◌≡◌, IfOk, string_bytes};
+ghost use Rattle.std.specs.Prelude.{◌≡◌, ◌++◌, IfOk, codes, string_bytes};
+ghost use Rattle.puzzle_cli.specs.declared.status.Status.TheVariants.{BadInput, Memory};
+ghost use Rattle.puzzle_cli.specs.declared.status.Place.TheVariants.{Line, Row};
+ghost use Rattle.puzzle_cli.specs.Statuses.{body_status, head_status, kind_text, place_text};
 
-use std::alloc::{AllocError, Global};
+use ply_body::BodyFault;
+use ply_head::HeadFault;
+use std::alloc::{AllocError, AllocFailed, Global};
+
+/// Why an input is refused, by the name of the refusal.
+#[derive(Clone, Copy, Debug, PartialEq, Eq)]
+pub enum InputKind {
+    NotPly,
+    Format,
+    Line,
+    TypeName,
+    NoVertex,
+    NoFace,
+    FloatBinary,
+    TooMany,
+    Short,
+    Number,
+    Range,
+    BadIndex { index: i64 },
+    TooManyTris,
+    TooLong,
+}
+
+/// Where an input is refused: at a line of its header, from 1, or at a row of an element, both from 0.
+#[derive(Clone, Copy, Debug, PartialEq, Eq)]
+pub enum Place {
+    Line { line: u64 },
+    Row { element: u32, row: u64 },
+}
 
 /// What a run ends with.
 #[derive(Clone, Copy, Debug, PartialEq, Eq)]
@@ -10,10 +41,20 @@ pub enum Status {
     Ok,
     /// The words aren't those of a command.
     Usage,
-    /// The input doesn't begin with the text of a plain mesh.
-    NotPlain,
+    /// The input is refused: why, and where.
+    BadInput { kind: InputKind, place: Place },
+    /// The input is more than 2^30 scaled units wide on an axis, 0 to 2 for x to z.
+    Extent {
+        axis: u8,
+        least: i64,
+        greatest: i64,
+    },
     /// A read of the input failed.
     InputFault,
+    /// A call of the work file failed.
+    WorkFault,
+    /// The work file gave back what was never written to it, at this offset in bytes.
+    WorkDamage { offset: u64 },
     /// A call of the output failed.
     OutFault,
     /// Memory ran out.
@@ -30,8 +71,11 @@ impl Status {
         match self {
             Status::Ok => 0,
             Status::Usage => 2,
-            Status::NotPlain => 3,
+            Status::BadInput { .. } => 3,
+            Status::Extent { .. } => 4,
             Status::InputFault => 5,
+            Status::WorkFault => 8,
+            Status::WorkDamage { .. } => 9,
             Status::OutFault => 14,
             Status::Memory => 16,
         }
@@ -41,19 +85,142 @@ impl Status {
     pub fn line(&self, alloc: Global) -> Result<String, AllocError>
         ensures { IfOk result (λ line. string_bytes line ≡ line_of self.now) }
     {
-        String::from_str(alloc, self.text())
-    }
-
-    fn text(&self) -> &'static str
-        ensures { result.now ≡ line_of self.now }
-    {
-        match self {
-            Status::Ok => "",
-            Status::Usage => "tpz: usage: tpz FOLDER COMMAND [--NAME VALUE]",
-            Status::NotPlain => "tpz: input is not plain",
-            Status::InputFault => "tpz: input failed",
-            Status::OutFault => "tpz: output failed",
-            Status::Memory => "tpz: out of memory",
+        match *self {
+            Status::Ok => String::from_str(alloc, ""),
+            Status::Usage => String::from_str(alloc, "tpz: usage: tpz FOLDER COMMAND [--NAME VALUE]"),
+            Status::BadInput { kind, place } => bad_input_line(alloc, kind, place),
+            Status::Extent {
+                axis,
+                least,
+                greatest,
+            } => format!(in alloc; "tpz: extent: axis {axis} from {least} to {greatest}; use fewer --digits"),
+            Status::InputFault => String::from_str(alloc, "tpz: input failed"),
+            Status::WorkFault => String::from_str(alloc, "tpz: work file failed"),
+            Status::WorkDamage { offset } => format!(in alloc; "tpz: work file damaged at {offset}"),
+            Status::OutFault => String::from_str(alloc, "tpz: output failed"),
+            Status::Memory => String::from_str(alloc, "tpz: out of memory"),
         }
+    }
+}
+
+impl From<AllocError> for Status {
+    ghost from_gives = { λ _ e. e ≡ Memory };
+
+    fn from(_: AllocError) -> Self {
+        Status::Memory
+    }
+}
+
+impl<T: Drop> From<AllocFailed<T>> for Status {
+    ghost from_gives = { λ _ e. e ≡ Memory };
+
+    fn from(_: AllocFailed<T>) -> Self {
+        Status::Memory
+    }
+}
+
+fn bad_input_line(alloc: Global, kind: InputKind, place: Place) -> Result<String, AllocError>
+    ensures { IfOk result (λ line. string_bytes line ≡ codes "tpz: bad input: " ++ (kind_text kind ++ (codes " at " ++ place_text place))) }
+{
+    let kind = kind_line(alloc, kind)?;
+    let place = place_line(alloc, place)?;
+    format!(in alloc; "tpz: bad input: {kind} at {place}")
+}
+
+fn place_line(alloc: Global, place: Place) -> Result<String, AllocError>
+    ensures { IfOk result (λ text. string_bytes text ≡ place_text place) }
+{
+    match place {
+        Place::Line { line } => format!(in alloc; "line {line}"),
+        Place::Row { element, row } => format!(in alloc; "element {element} row {row}"),
+    }
+}
+
+fn kind_line(alloc: Global, kind: InputKind) -> Result<String, AllocError>
+    ensures { IfOk result (λ text. string_bytes text ≡ kind_text kind) }
+{
+    match kind {
+        InputKind::NotPly => String::from_str(alloc, "NotPly"),
+        InputKind::Format => String::from_str(alloc, "Format"),
+        InputKind::Line => String::from_str(alloc, "Line"),
+        InputKind::TypeName => String::from_str(alloc, "TypeName"),
+        InputKind::NoVertex => String::from_str(alloc, "NoVertex"),
+        InputKind::NoFace => String::from_str(alloc, "NoFace"),
+        InputKind::FloatBinary => String::from_str(alloc, "FloatBinary"),
+        InputKind::TooMany => String::from_str(alloc, "TooMany"),
+        InputKind::Short => String::from_str(alloc, "Short"),
+        InputKind::Number => String::from_str(alloc, "Number"),
+        InputKind::Range => String::from_str(alloc, "Range"),
+        InputKind::BadIndex { index } => format!(in alloc; "BadIndex {index}"),
+        InputKind::TooManyTris => String::from_str(alloc, "TooManyTris"),
+        InputKind::TooLong => String::from_str(alloc, "TooLong"),
+    }
+}
+
+// The status of an input that is refused at a line of its header.
+fn at_line(kind: InputKind, line: u64) -> Status
+    ensures { result ≡ BadInput kind (Line line) }
+{
+    Status::BadInput {
+        kind,
+        place: Place::Line { line },
+    }
+}
+
+// The status of an input that is refused at a row.
+fn at_row(kind: InputKind, element: u32, row: u64) -> Status
+    ensures { result ≡ BadInput kind (Row element row) }
+{
+    Status::BadInput {
+        kind,
+        place: Place::Row { element, row },
+    }
+}
+
+/// The status of a header that isn't read.
+pub fn status_of_head(fault: HeadFault) -> Status
+    ensures { result ≡ head_status fault }
+{
+    match fault {
+        HeadFault::NotPly { line } => at_line(InputKind::NotPly, line),
+        HeadFault::Format { line } => at_line(InputKind::Format, line),
+        HeadFault::Line { line } => at_line(InputKind::Line, line),
+        HeadFault::TypeName { line } => at_line(InputKind::TypeName, line),
+        HeadFault::NoVertex { line } => at_line(InputKind::NoVertex, line),
+        HeadFault::NoFace { line } => at_line(InputKind::NoFace, line),
+        HeadFault::FloatBinary { line } => at_line(InputKind::FloatBinary, line),
+        HeadFault::TooMany { line } => at_line(InputKind::TooMany, line),
+        HeadFault::InputFault => Status::InputFault,
+        HeadFault::Memory => Status::Memory,
+    }
+}
+
+/// The status of rows that aren't read.
+pub fn status_of_body(fault: BodyFault) -> Status
+    ensures { result ≡ body_status fault }
+{
+    match fault {
+        BodyFault::Short { element, row } => at_row(InputKind::Short, element, row),
+        BodyFault::Number { element, row } => at_row(InputKind::Number, element, row),
+        BodyFault::Range { element, row } => at_row(InputKind::Range, element, row),
+        BodyFault::BadIndex {
+            element,
+            row,
+            index,
+        } => at_row(InputKind::BadIndex { index }, element, row),
+        BodyFault::Extent {
+            axis,
+            least,
+            greatest,
+        } => Status::Extent {
+            axis,
+            least,
+            greatest,
+        },
+        BodyFault::TooManyTris { element, row } => at_row(InputKind::TooManyTris, element, row),
+        BodyFault::TooLong { element, row } => at_row(InputKind::TooLong, element, row),
+        BodyFault::InputFault => Status::InputFault,
+        BodyFault::WorkFault => Status::WorkFault,
+        BodyFault::WorkDamage { offset } => Status::WorkDamage { offset },
     }
 }

@@ -9,14 +9,14 @@ returns-in_err-write_part-clause-front g c = none_yet _ _ _ _ _ c.in_err-write_p
 
 pub returns-in_err-note-clause-front : goal.returns-in_err-note-clause-front
 returns-in_err-note-clause-front g c =
-    part_alone c.args.plain c.in_ok-mesh.mesh _ _ _ _ _ _ (c.in_ok-mesh.ensures.mesh)
+    part_alone c.args.input c.in_ok-mesh.mesh _ _ _ _ _ _ (c.in_ok-mesh.ensures.mesh)
     c.in_ok-mesh.ensures.numbering c.in_ok-write_part.ensures.part c.write_part.ensures.notes c.note.ensures.parts c.in_err-note.ensures.notes
 
 pub returns-clause-ok : goal.returns-clause-ok
 returns-clause-ok g c =
-    part_and_note c.args.plain c.in_ok-mesh.mesh _ _ _ _ _ _ (c.in_ok-mesh.ensures.mesh)
+    part_and_note c.args.input c.in_ok-mesh.mesh _ _ _ _ _ _ (c.in_ok-mesh.ensures.mesh)
     c.in_ok-mesh.ensures.numbering c.in_ok-write_part.ensures.part c.write_part.ensures.notes c.as_bytes.result.now c.as_slice-vertices.result.now
-    (c.as_bytes.ensures.value ∙ c.in_ok-line.ensures ∙ ap (λ (l : Mesh). finest_note (length l) c.args.plain.dropped (length c.as_slice-vertices.result.now)) c.as_slice-count.ensures.value)
+    (c.as_bytes.ensures.value ∙ c.in_ok-line.ensures ∙ ap (λ (l : Mesh). finest_note (length l) c.args.input.dropped (length c.as_slice-vertices.result.now)) c.as_slice-count.ensures.value)
     c.as_slice-vertices.ensures.keys c.note.ensures.parts c.in_ok-note.ensures.line
 
 pub returns-clause-front : goal.returns-clause-front

@@ -2,12 +2,8 @@ use Rattle.std.proofs.Common.{◌∙◌, ◌++◌, ap}
 use Rattle.tpz_base.specs.Meshes.{Mesh}
 use Rattle.tpz_base.specs.Roots.{root_part}
 use Rattle.puzzle_cli.specs.Numbering.{numbered_mesh}
-use Rattle.puzzle_cli.proofs.RootLoops.{few_here, roots_here, later_parts, all_roots}
+use Rattle.puzzle_cli.proofs.RootLoops.{roots_here, later_parts, all_roots}
 use Rattle.puzzle_cli.proofs.numbering.number_by_roots.Goals as goal
-
-pub add_root-requires-clause-few : goal.add_root-requires-clause-few
-add_root-requires-clause-few c =
-    rw c.deref.ensures.value (few_here c.args.tris.items c.roots.tris.items _ c.roots.place c.roots.invariant.mesh c.roots-test.true c.roots.invariant.there c.requires)
 
 pub roots-preserved : goal.roots-preserved
 roots-preserved c = record {

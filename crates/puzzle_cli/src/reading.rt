@@ -1,0 +1,109 @@
+// The mesh of an input, read through the work file.
+ghost use Rattle.std.specs.Prelude.{◌≡◌, ◌≤◌, ℕ, List, IfOk, IsOk, Ok, Err, None, Some};
+ghost use Rattle.std.specs.Option.{ForSome};
+ghost use Rattle.tpz_io.specs.Causes.{Rose};
+ghost use Rattle.tpz_base.specs.Cubes.{Row};
+ghost use Rattle.tpz_base.specs.Texts.{Face};
+ghost use Rattle.ply_body.specs.Bodies.{Input};
+ghost use Rattle.ply_body.specs.Inputs.{Refusal, broken_of, default_input, points_of, whole_of};
+ghost use Rattle.ply_body.specs.Spots.{HoldsPoints, HoldsRows, IsFrameOf};
+ghost use Rattle.ply_body.specs.Readings.{coming_told};
+ghost use Rattle.puzzle_cli.specs.declared.status.Status.{Status};
+ghost use Rattle.puzzle_cli.specs.Finest.{digits_of, IsAccepted, IsMeshOf};
+ghost use Rattle.puzzle_cli.specs.Parts.{IsLow};
+ghost use Rattle.puzzle_cli.specs.Readings.{IsRefusalTold, TrisTold};
+ghost use Rattle.puzzle_cli.specs.Statuses.{status_of, IsRefused, IsUnread};
+
+use crate::Status;
+use crate::status::{status_of_body, status_of_head};
+use ply_body::{Faces, Frame};
+use ply_head::read_head;
+use std::alloc::Global;
+use tpz_base::Tri;
+use tpz_io::{Blob, Source};
+
+/// What is read of an input, in whole scaled units.
+#[derive(Drop)]
+pub struct InputMesh {
+    /// Coordinates are scaled by 10 to this power.
+    pub digits: u8,
+    /// The least coordinates of all rows, on x, y and z; 0 where there are no rows.
+    pub low: [i64; 3],
+    /// The whole triangles in the order of the faces, less `low`.
+    pub tris: Vec<Tri>,
+    /// How many triangles have two corners at one place.
+    pub dropped: u64,
+}
+
+// Takes all triangles that are still to come.
+fn read_tris<I: Source, W: Blob>(
+    alloc: Global,
+    faces: &mut Faces,
+    frame: &Frame,
+    input: &mut I,
+    work: &mut W,
+) -> Result<Vec<Tri>, Status>
+    requires frame { faces.old.frame ≡ Some frame.now }
+    requires fresh { (faces.old.refusal ≡ None) × (faces.old.given ≡ 0) × (faces.old.dropped ≡ 0) }
+    requires points { ForSome (W.held work.old) (HoldsPoints frame.now) }
+    ensures tris { IfOk result (λ tris. TrisTold faces.old faces.new (I.left input.old) (W.held work.new) frame.now tris.items) }
+    ensures refused { (status : Status) → result ≡ Err status → IsRefused status
+        → ForSome (coming_told faces.old (I.left input.old)) (λ coming. IsRefusalTold coming status) }
+    ensures unread { (status : Status) → result ≡ Err status → IsUnread status }
+    ensures input { (status : Status) → result ≡ Err status → status ≡ Status.InputFault → Rose (I.faults input.old) (I.faults input.new) }
+    ensures work { (status : Status) → result ≡ Err status → status ≡ Status.WorkFault → Rose (W.faults work.old) (W.faults work.new) }
+    ensures damage { (status : Status) → result ≡ Err status → (offset : ℕ) → status ≡ Status.WorkDamage offset → W.held work.new ≡ None }
+    ensures input_later { I.faults input.old ≤ I.faults input.new }
+    ensures work_later { W.faults work.old ≤ W.faults work.new }
+    ensures held { W.held work.new ≡ W.held work.old }
+{
+    let mut tris = Vec::new(alloc);
+    'tris: loop {
+        let next = match faces.next_tri(input, frame, work) {
+            Ok(next) => next,
+            Err(fault) => return Err(status_of_body(fault)),
+        };
+        let Some(t) = next else {
+            return Ok(tris);
+        };
+        tris.push(t)?;
+    }
+}
+
+/// Reads an input. Its points go to the work file, whose bytes are overwritten.
+pub fn read_mesh<I: Source, W: Blob>(
+    alloc: Global,
+    input: &mut I,
+    work: &mut W,
+) -> Result<InputMesh, Status>
+    ensures mesh { IfOk result (λ mesh. ForSome (I.left input.old) (λ bytes. ForSome (W.held work.new) (λ _. (rows : List Row) (faces : List Face)
+        → default_input bytes ≡ Ok (record { rows = rows; faces = faces }) → IsMeshOf mesh (digits_of bytes) rows faces))) }
+    ensures accepted { IsOk result → ForSome (I.left input.old) IsAccepted }
+    ensures low { IfOk result (λ mesh. IsLow mesh.low) }
+    ensures refused { (status : Status) → result ≡ Err status → IsRefused status
+        → ForSome (I.left input.old) (λ bytes. (r : Refusal) × (default_input bytes ≡ Err r) × (status ≡ status_of r)) }
+    ensures unread { (status : Status) → result ≡ Err status → IsUnread status }
+    ensures input { (status : Status) → result ≡ Err status → status ≡ Status.InputFault → Rose (I.faults input.old) (I.faults input.new) }
+    ensures work { (status : Status) → result ≡ Err status → status ≡ Status.WorkFault → Rose (W.faults work.old) (W.faults work.new) }
+    ensures damage { (status : Status) → result ≡ Err status → (offset : ℕ) → status ≡ Status.WorkDamage offset → W.held work.new ≡ None }
+    ensures input_later { I.faults input.old ≤ I.faults input.new }
+    ensures work_later { W.faults work.old ≤ W.faults work.new }
+{
+    let head = match read_head(alloc, input) {
+        Ok(head) => head,
+        Err(fault) => return Err(status_of_head(fault)),
+    };
+    let digits = head.default_digits();
+    let mut faces = Faces::open(alloc, head, digits)?;
+    let frame = match faces.load_points(input, work) {
+        Ok(frame) => frame,
+        Err(fault) => return Err(status_of_body(fault)),
+    };
+    let tris = read_tris(alloc, &mut faces, &frame, input, work)?;
+    Ok(InputMesh {
+        digits,
+        low: frame.low,
+        tris,
+        dropped: faces.dropped(),
+    })
+}
