@@ -10,7 +10,8 @@ use Rattle.std.proofs.lemmas.List.Sums.{sum_by-append}
 use Rattle.tpz_base.specs.declared.shape.Point.{Point}
 use Rattle.tpz_base.specs.declared.shape.Tri.{Tri}
 use Rattle.tpz_base.specs.Meshes.{Mesh, is_whole}
-use Rattle.tpz_base.specs.Cubes.{Row}
+use Rattle.tpz_io.specs.Told.{ahead}
+use Rattle.tpz_base.specs.Cubes.{Row, low_of}
 use Rattle.tpz_base.specs.Texts.{Bytes, Face}
 use Rattle.tpz_base.proofs.Elements.{count_by-filter}
 use Rattle.ply_head.specs.declared.fault.HeadFault.{HeadFault}
@@ -20,14 +21,17 @@ use Rattle.ply_head.specs.Heads.{HeadState, IsHeadOf, IsRefusal as IsHeadRefusal
 use Rattle.ply_body.specs.declared.fault.BodyFault.{BodyFault}
 use Rattle.ply_body.specs.declared.fault.BodyFault.TheVariants as body
 use Rattle.ply_body.specs.declared.frame.Frame.{Frame}
-use Rattle.ply_body.specs.Items.{◌>>=◌}
-use Rattle.ply_body.specs.Bodies.{Input}
-use Rattle.ply_body.specs.Inputs.{Refusal, InHead, InBody, refused_as, default_input, body as body_of, points_of, triangle_at, whole_of, broken_of}
-use Rattle.ply_body.specs.Spots.{HoldsRows, IsFrameOf}
-use Rattle.ply_body.specs.Readings.{with_faces, with_spots, coming_told, input_told, opened, IsRefusal}
+use Rattle.ply_body.specs.Items.{◌>>=◌, MOST_BYTES, items_of}
+use Rattle.ply_body.specs.Bodies.{Input, no_input, elements}
+use Rattle.ply_body.specs.Inputs.{Refusal, InHead, InBody, refused_as, default_input, body as body_of, points_of, triangle_at, whole_of, broken_of, setting_of, mesh_of, dropped_of}
+use Rattle.ply_body.specs.Spots.{coordinates, HoldsRows, IsFrameOf}
+use Rattle.ply_body.specs.Readings.{with_faces, with_spots, coming_told, input_told, opened, IsRefusal, Reading}
+use Rattle.puzzle_cli.specs.declared.reading.InputMesh.{InputMesh}
 use Rattle.puzzle_cli.specs.declared.status.Status.{Status}
-use Rattle.puzzle_cli.specs.Statuses.{head_status, body_status, IsRefused}
-use Rattle.puzzle_cli.specs.Readings.{AreWhole}
+use Rattle.puzzle_cli.specs.declared.status.Status.TheVariants.{WorkDamage}
+use Rattle.puzzle_cli.specs.Finest.{digits_by, digits_of, IsMeshOf}
+use Rattle.puzzle_cli.specs.Statuses.{head_status, body_status, status_of, IsRefused}
+use Rattle.puzzle_cli.specs.Readings.{AreWhole, IsRefusalTold}
 
 abbrev Coming : Type 0
 Coming = Option (Result (List Face) BodyFault)
@@ -131,7 +135,7 @@ one_whole frame held faces lost face t tris tris' dropped dropped' are pushed co
     let old = are bytes told rows is holds in
     let new = more bytes told rows is holds in (
       pushed ∙ ap₂ (λ (l m : Mesh). l ++ m) old.0 (ap₂ (λ (l m : Mesh). l ++ m) (sym (whole_lost ps lost new.0)) (sym (whole_one ps face t new.1 whole)) ∙ sym (whole-append ps lost (face ∷ [])))
-      ∙ sym (whole-append ps faces (lost ++ face ∷ [])),
+          ∙ sym (whole-append ps faces (lost ++ face ∷ [])),
       omega (arith, counted, old.1, broken-append ps faces (lost ++ face ∷ []), broken-append ps lost (face ∷ []), broken_lost ps lost new.0, broken_one ps face t new.1 whole),
     )
 
@@ -189,3 +193,91 @@ same_status given status status' same is = cc
 pub not_refused_yet : {P : Type 0} (refusal : Option BodyFault) (f : BodyFault) → refusal ≡ None → (refusal ≡ Some f) ⊎ P → P
 not_refused_yet refusal f none (inl e) = let no : None ≡ Some f = sym none ∙ e in cc
 not_refused_yet refusal f none (inr p) = p
+
+pub damage_of_body : (f : BodyFault) (offset : ℕ) → body_status f ≡ WorkDamage offset → f ≡ body.WorkDamage offset
+damage_of_body (body.Short element row) offset e = cc
+damage_of_body (body.Number element row) offset e = cc
+damage_of_body (body.Range element row) offset e = cc
+damage_of_body (body.BadIndex element row index) offset e = cc
+damage_of_body (body.Extent axis least greatest) offset e = cc
+damage_of_body (body.TooManyTris element row) offset e = cc
+damage_of_body (body.TooLong element row) offset e = cc
+damage_of_body body.InputFault offset e = cc
+damage_of_body body.WorkFault offset e = cc
+damage_of_body (body.WorkDamage n) offset e = cc
+
+-- what an input means, by what a reader that was opened behind its header still has to read
+pub default_by : (head : HeadState) (reading : Reading) (digits : ℕ) (told left : Option Bytes) (bytes : Bytes) (r : Result Input BodyFault)
+    → (size : ℕ) × IsHeadOf head size told (ahead head.held left) → digits ≡ default_digits head.elements → reading ≡ opened head digits
+    → told ≡ Some bytes → ForSome (input_told reading left) (λ x. x ≡ r) → default_input bytes ≡ refused_as InBody r
+default_by head reading digits told left bytes r read scale is tells means =
+    let h : Heading = record { format = head.format; elements = head.elements; size = read.0 } in
+    let rest : ahead head.held left ≡ Some (drop read.0 bytes) = read.1.rest ∙ ap (option_map (drop read.0)) tells in
+    let known : input_told (opened head digits) left ≡ Some (body_of h digits (drop read.0 bytes)) =
+    ap (λ (o : Option Bytes). option_map (elements (setting_of head.elements digits) 0 head.elements no_input) (option_map (items_of head.format MOST_BYTES) o)) rest in
+    let meant : body_of h digits (drop read.0 bytes) ≡ r = means _ (ap (λ (x : Reading). input_told x left) is ∙ known) in
+    body_told bytes h (read.1.heading bytes tells) ∙ ap (λ (d : ℕ). refused_as InBody (body_of h d (drop read.0 bytes))) (sym scale)
+    ∙ ap (refused_as InBody) meant
+
+pub spots_refused : (o : Option (Result Input BodyFault)) (c : Coming) (rs : List Row) (f : BodyFault) → o ≡ option_map (with_spots rs) c
+    → ForSome c (λ r. r ≡ Err f) → ForSome o (λ r. r ≡ Err f)
+spots_refused o c rs f first last = λ r told. go c r (sym first ∙ told) last where
+  go : (c : Coming) (r : Result Input BodyFault) → option_map (with_spots rs) c ≡ Some r → ForSome c (λ r. r ≡ Err f) → r ≡ Err f
+  go None r told last = cc
+  go (Some (Ok gs)) r told last = let same : Ok gs ≡ Err f = last (Ok gs) refl in cc
+  go (Some (Err g)) r told last = let same : Err g ≡ Err f = last (Err g) refl in cc
+
+pub spots_read : (o : Option (Result Input BodyFault)) (c : Coming) (rs : List Row) (fs : List Face) → o ≡ option_map (with_spots rs) c
+    → ForSome c (λ r. r ≡ Ok fs) → ForSome o (λ r. r ≡ Ok (record { rows = rs; faces = fs }))
+spots_read o c rs fs first last = λ r told. go c r (sym first ∙ told) last where
+  go : (c : Coming) (r : Result Input BodyFault) → option_map (with_spots rs) c ≡ Some r → ForSome c (λ r. r ≡ Ok fs)
+      → r ≡ Ok (record { rows = rs; faces = fs })
+  go None r told last = cc
+  go (Some (Ok gs)) r told last = let same : Ok gs ≡ Ok fs = last (Ok gs) refl in cc
+  go (Some (Err g)) r told last = let same : Err g ≡ Ok fs = last (Err g) refl in cc
+
+one_meaning : (i j : Input) → ◌≡◌ {A = Result Input Refusal} (Ok i) (Ok j) → i ≡ j
+one_meaning i j same = cc
+
+-- the mesh of the rows and faces that were read is that of those that the input means
+pub mesh_read : (mesh : InputMesh) (input : Input) (bytes : Bytes) (rows : List Row) (faces : List Face) → default_input bytes ≡ Ok input
+    → default_input bytes ≡ Ok (record { rows = rows; faces = faces }) → mesh.digits ≡ digits_of bytes → mesh.low ≡ coordinates (low_of input.rows)
+    → mesh.tris.items ≡ whole_of (points_of input.rows) input.faces → mesh.dropped ≡ broken_of (points_of input.rows) input.faces
+    → IsMeshOf mesh (digits_of bytes) rows faces
+mesh_read mesh input bytes rows faces is means digits low tris dropped =
+    let same : input ≡ record { rows = rows; faces = faces } = one_meaning input (record { rows = rows; faces = faces }) (sym is ∙ means) in record {
+      digits = digits;
+      low = low ∙ ap (λ (i : Input). coordinates (low_of i.rows)) same;
+      tris = tris ∙ ap (λ (i : Input). mesh_of i.rows i.faces) same;
+      dropped = dropped ∙ ap (λ (i : Input). dropped_of i.rows i.faces) same;
+    }
+
+some_same : {X : Type 0} {x y : X} → ◌≡◌ {A = Option X} (Some x) (Some y) → x ≡ y
+some_same e = cc
+
+-- what is told stays told
+no_less : (head : HeadState) (reading : Reading) (digits : ℕ) (told left : Option Bytes) (bytes : Bytes)
+    → (size : ℕ) × IsHeadOf head size told (ahead head.held left) → digits ≡ default_digits head.elements
+    → reading ≡ opened head digits → told ≡ Some bytes → input_told reading left ≡ None → ⊥
+no_less head reading digits told left bytes read scale is tells none =
+    let rest : ahead head.held left ≡ Some (drop read.0 bytes) = read.1.rest ∙ ap (option_map (drop read.0)) tells in
+    let h : Heading = record { format = head.format; elements = head.elements; size = read.0 } in
+    let known : input_told (opened head digits) left ≡ Some (body_of h digits (drop read.0 bytes)) =
+    ap (λ (o : Option Bytes). option_map (elements (setting_of head.elements digits) 0 head.elements no_input) (option_map (items_of head.format MOST_BYTES) o)) rest in
+    let no : None ≡ Some (body_of h digits (drop read.0 bytes)) = sym none ∙ ap (λ (x : Reading). input_told x left) is ∙ known in
+    cc
+
+-- an input is refused where the triangles are that were to come
+pub refused_by : (head : HeadState) (reading : Reading) (digits : ℕ) (told left : Option Bytes) (bytes : Bytes) (c : Coming) (rs : List Row)
+    (status status' : Status) → (size : ℕ) × IsHeadOf head size told (ahead head.held left) → digits ≡ default_digits head.elements
+    → reading ≡ opened head digits → told ≡ Some bytes → input_told reading left ≡ option_map (with_spots rs) c
+    → ForSome c (λ r. IsRefusalTold r status) → status' ≡ status → (x : Refusal) × (default_input bytes ≡ Err x) × (status' ≡ status_of x)
+refused_by head reading digits told left bytes None rs status status' read scale is tells first last same =
+    absurd (no_less head reading digits told left bytes read scale is tells first)
+refused_by head reading digits told left bytes (Some r) rs status status' read scale is tells first last same =
+    let why = last r refl in (
+      InBody why.0,
+      default_by head reading digits told left bytes (Err why.0) read scale is tells
+          (spots_refused (input_told reading left) (Some r) rs why.0 first (λ x e. sym (some_same e) ∙ why.1)),
+      same ∙ why.2,
+    )

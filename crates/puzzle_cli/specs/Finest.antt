@@ -24,11 +24,12 @@ abbrev pub IsAccepted : Bytes → Type 0
 IsAccepted bytes = (input : Input) × (default_input bytes ≡ Ok input)
 
 -- the digits of an input, by the types of its coordinates
+abbrev pub digits_by : Result Heading HeadFault → ℕ
+digits_by (Ok h) = default_digits h.elements
+digits_by (Err f) = 0
+
 abbrev pub digits_of : Bytes → ℕ
-digits_of bytes = by_heading (heading bytes) where
-  by_heading : Result Heading HeadFault → ℕ
-  by_heading (Ok h) = default_digits h.elements
-  by_heading (Err f) = 0
+digits_of bytes = digits_by (heading bytes)
 
 -- the triangles of the input, root by root
 abbrev pub finest_mesh : List Row → List Face → Mesh

@@ -99,7 +99,10 @@ pub fn read_mesh<I: Source, W: Blob>(
         Ok(frame) => frame,
         Err(fault) => return Err(status_of_body(fault)),
     };
-    let tris = read_tris(alloc, &mut faces, &frame, input, work)?;
+    let tris = match read_tris(alloc, &mut faces, &frame, input, work) {
+        Ok(tris) => tris,
+        Err(status) => return Err(status),
+    };
     Ok(InputMesh {
         digits,
         low: frame.low,

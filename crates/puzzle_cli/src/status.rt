@@ -44,11 +44,7 @@ pub enum Status {
     /// The input is refused: why, and where.
     BadInput { kind: InputKind, place: Place },
     /// The input is more than 2^30 scaled units wide on an axis, 0 to 2 for x to z.
-    Extent {
-        axis: u8,
-        least: i64,
-        greatest: i64,
-    },
+    Extent { axis: u8, least: i64, greatest: i64 },
     /// A read of the input failed.
     InputFault,
     /// A call of the work file failed.
@@ -87,16 +83,23 @@ impl Status {
     {
         match *self {
             Status::Ok => String::from_str(alloc, ""),
-            Status::Usage => String::from_str(alloc, "tpz: usage: tpz FOLDER COMMAND [--NAME VALUE]"),
+            Status::Usage => String::from_str(
+                alloc,
+                "tpz: usage: tpz FOLDER COMMAND [--NAME VALUE]",
+            ),
             Status::BadInput { kind, place } => bad_input_line(alloc, kind, place),
             Status::Extent {
                 axis,
                 least,
                 greatest,
-            } => format!(in alloc; "tpz: extent: axis {axis} from {least} to {greatest}; use fewer --digits"),
+            } => format!(in alloc;
+                "tpz: extent: axis {axis} from {least} to {greatest}; use fewer --digits"
+            ),
             Status::InputFault => String::from_str(alloc, "tpz: input failed"),
             Status::WorkFault => String::from_str(alloc, "tpz: work file failed"),
-            Status::WorkDamage { offset } => format!(in alloc; "tpz: work file damaged at {offset}"),
+            Status::WorkDamage { offset } => format!(in alloc;
+                "tpz: work file damaged at {offset}"
+            ),
             Status::OutFault => String::from_str(alloc, "tpz: output failed"),
             Status::Memory => String::from_str(alloc, "tpz: out of memory"),
         }

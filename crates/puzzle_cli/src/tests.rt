@@ -9,10 +9,10 @@ fn source(alloc: Global, bytes: &[u8], fails: &[u64]) -> Result<MemSource, Fail>
     Ok(MemSource::new(bytes.to_vec(alloc)?, fails))
 }
 
-// An empty blob whose first call fails.
-fn failing_blob(alloc: Global) -> Result<MemBlob, Fail> {
-    let fails = [1].to_vec(alloc)?;
-    Ok(MemBlob::new(alloc, b"", 0, fails)?)
+// A blob with room for so many bytes, of which these calls fail.
+fn blob(alloc: Global, room: u64, fails: &[u64]) -> Result<MemBlob, Fail> {
+    let fails = fails.to_vec(alloc)?;
+    Ok(MemBlob::new(alloc, b"", room, fails)?)
 }
 
 fn output(alloc: Global, fails: &[u64]) -> Result<MemOut, Fail> {
@@ -32,7 +32,25 @@ fn is_unread<I: Source>(source: &mut I) -> bool {
     source.read(&mut [0]) == Err(Failed)
 }
 
-// Runs the command of these words, and sees that script, work and store, whose first call fails, get none.
+// Runs the command of these words, and sees that script and store, whose first call fails, get none.
+fn run_over(
+    rt: &impl Abort,
+    alloc: Global,
+    words: &[&str],
+    input: &mut MemSource,
+    work: &mut MemBlob,
+    out: &mut MemOut,
+) -> Result<Status, Fail> {
+    let words = texts(alloc, words)?;
+    let mut script = source(alloc, b"", &[1])?;
+    let mut store = blob(alloc, 0, &[1])?;
+    let status = run(alloc, &words, input, &mut script, work, &mut store, out);
+    assert!(rt; is_unread(&mut script));
+    assert_eq!(rt; store.len(), Err(Failed));
+    Ok(status)
+}
+
+// Runs the command of these words with a work file that doesn't fail.
 fn run_words(
     rt: &impl Abort,
     alloc: Global,
@@ -40,23 +58,8 @@ fn run_words(
     input: &mut MemSource,
     out: &mut MemOut,
 ) -> Result<Status, Fail> {
-    let words = texts(alloc, words)?;
-    let mut script = source(alloc, b"", &[1])?;
-    let mut work = failing_blob(alloc)?;
-    let mut store = failing_blob(alloc)?;
-    let status = run(
-        alloc,
-        &words,
-        input,
-        &mut script,
-        &mut work,
-        &mut store,
-        out,
-    );
-    assert!(rt; is_unread(&mut script));
-    assert_eq!(rt; work.len(), Err(Failed));
-    assert_eq!(rt; store.len(), Err(Failed));
-    Ok(status)
+    let mut work = blob(alloc, 4096, &[])?;
+    run_over(rt, alloc, words, input, &mut work, out)
 }
 
 // A mesh: how many vertices and faces it has, and their lines.
@@ -64,8 +67,8 @@ type Mesh = (u32, u32, &'static str);
 
 const ONE_TRIANGLE: Mesh = (3, 1, "0 0 0\n4 0 0\n0 4 0\n3 0 1 2\n");
 
-// What is written for a plain input.
-const WRITTEN: [(&str, Mesh, Mesh, &str); 5] = [
+// What is written for an input.
+const WRITTEN: [(&str, Mesh, Mesh, &str); 7] = [
     (
         "one triangle, whose barycentre ties x and y",
         ONE_TRIANGLE,
@@ -91,6 +94,18 @@ const WRITTEN: [(&str, Mesh, Mesh, &str); 5] = [
             "0 0 0\n4 0 0\n2 2 0\n4 4 0\n0 4 0\n3 0 1 2\n3 1 3 2\n3 3 4 2\n3 4 0 2\n",
         ),
         "finest tris 4 dropped 0 vertices 5\n",
+    ),
+    (
+        "a square as one polygon",
+        (4, 1, "0 0 0\n4 0 0\n4 4 0\n0 4 0\n4 0 1 2 3\n"),
+        (4, 2, "0 0 0\n4 0 0\n4 4 0\n0 4 0\n3 0 1 2\n3 0 2 3\n"),
+        "finest tris 2 dropped 0 vertices 4\n",
+    ),
+    (
+        "the widest axis, and a face that is left out",
+        (2, 1, "0 0 0\n1073741824 0 0\n3 0 1 0\n"),
+        (0, 0, ""),
+        "finest tris 0 dropped 1 vertices 0\n",
     ),
     (
         "a face with two equal indices",
@@ -128,7 +143,7 @@ fn mesh_source(alloc: Global, mesh: Mesh, fails: &[u64]) -> Result<MemSource, Fa
 }
 
 #[test]
-fn a_plain_mesh_is_written_root_by_root(rt: HostRuntime) -> Result<(), Fail> {
+fn a_mesh_is_written_root_by_root(rt: HostRuntime) -> Result<(), Fail> {
     let alloc = rt.alloc();
     for (name, mesh, part, note) in WRITTEN {
         let part = mesh_text(alloc, part)?;
@@ -149,41 +164,262 @@ fn other_words_are_refused_without_a_call_of_a_device(rt: HostRuntime) -> Result
     let others: [&[&str]; 4] = [&[], &["finset"], &["Finest"], &["finest", "finest"]];
     for words in others {
         let mut input = mesh_source(alloc, ONE_TRIANGLE, &[1])?;
+        let mut work = blob(alloc, 0, &[1])?;
         let mut out = output(alloc, &[1])?;
-        let status = run_words(&rt, alloc, words, &mut input, &mut out)?;
+        let status = run_over(&rt, alloc, words, &mut input, &mut work, &mut out)?;
         assert_eq!(rt; status, Status::Usage, "at {words:?}");
         assert!(rt; is_unread(&mut input), "at {words:?}");
+        assert_eq!(rt; work.len(), Err(Failed), "at {words:?}");
         assert_eq!(rt; out.part(), Err(Failed), "at {words:?}");
     }
     Ok(())
 }
 
-// The first call of the output fails, and is still to come.
+fn line(kind: InputKind, line: u64) -> Status {
+    let place = Place::Line { line };
+    Status::BadInput { kind, place }
+}
+
+fn row(kind: InputKind, element: u32, row: u64) -> Status {
+    let place = Place::Row { element, row };
+    Status::BadInput { kind, place }
+}
+
+// Runs `finest` over these bytes, where the first call of the output fails, and sees that it is still to come.
+fn refusal(rt: &impl Abort, alloc: Global, bytes: &[u8], name: &str) -> Result<Status, Fail> {
+    let mut input = source(alloc, bytes, &[])?;
+    let mut out = output(alloc, &[1])?;
+    let status = run_words(rt, alloc, &["finest"], &mut input, &mut out)?;
+    assert_eq!(rt; out.part(), Err(Failed), "at {name}");
+    Ok(status)
+}
+
 #[test]
-fn a_refused_input_writes_nothing(rt: HostRuntime) -> Result<(), Fail> {
+fn a_refused_header_is_told_by_its_line(rt: HostRuntime) -> Result<(), Fail> {
     let alloc = rt.alloc();
-    let refused: [(&str, Mesh, &[u64], Status); 3] = [
+    let refused: [(&str, &str, Status); 8] = [
+        ("no input", "", line(InputKind::NotPly, 1)),
         (
-            "the first read fails",
-            ONE_TRIANGLE,
-            &[1],
-            Status::InputFault,
+            "a header without its last line feed",
+            "ply\nformat ascii 1.0\nelement vertex 1\nproperty int x",
+            line(InputKind::Line, 4),
         ),
-        ("no last line feed", (1, 0, "0 0 0"), &[], Status::NotPlain),
         (
-            "an index that is too large",
-            (1, 1, "0 0 0\n3 0 0 1\n"),
-            &[],
-            Status::NotPlain,
+            "another version",
+            "ply\nformat ascii 1.1\n",
+            line(InputKind::Format, 2),
+        ),
+        (
+            "an unknown type",
+            "ply\nformat ascii 1.0\nelement vertex 1\nproperty real x\n",
+            line(InputKind::TypeName, 4),
+        ),
+        (
+            "too many rows",
+            "ply\nformat ascii 1.0\nelement vertex 2147483649\n",
+            line(InputKind::TooMany, 3),
+        ),
+        (
+            "a vertex element without z",
+            "ply\nformat ascii 1.0\nelement vertex 1\nproperty int x\nproperty int y\nend_header\n",
+            line(InputKind::NoVertex, 6),
+        ),
+        (
+            "points without faces",
+            "ply\nformat ascii 1.0\nelement vertex 1\nproperty int x\nproperty int y\nproperty int z\nend_header\n",
+            line(InputKind::NoFace, 7),
+        ),
+        (
+            "binary floats",
+            "ply\nformat binary_little_endian 1.0\nelement vertex 3\nproperty float x\nproperty int y\nproperty int z\nelement face 1\nproperty list uchar int vertex_indices\nend_header\n",
+            line(InputKind::FloatBinary, 9),
         ),
     ];
-    for (name, mesh, fails, refusal) in refused {
-        let mut input = mesh_source(alloc, mesh, fails)?;
-        let mut out = output(alloc, &[1])?;
-        let status = run_words(&rt, alloc, &["finest"], &mut input, &mut out)?;
-        assert_eq!(rt; status, refusal, "at {name}");
-        assert_eq!(rt; out.part(), Err(Failed), "at {name}");
+    for (name, text, status) in refused {
+        assert_eq!(rt;
+            refusal(&rt, alloc, text.as_bytes(), name)?,
+            status,
+            "at {name}"
+        );
     }
+    Ok(())
+}
+
+#[test]
+fn a_refused_mesh_is_told_by_its_row(rt: HostRuntime) -> Result<(), Fail> {
+    let alloc = rt.alloc();
+    let refused: [(&str, Mesh, Status); 9] = [
+        ("a short row", (1, 0, "0 0\n"), row(InputKind::Short, 0, 0)),
+        (
+            "a count of rows without a body",
+            (2147483648, 0, ""),
+            row(InputKind::Short, 0, 0),
+        ),
+        (
+            "an index of 19 digits in a short body",
+            (3, 1, "0 0 0\n4 0 0\n0 4 0\n9223372036854775807 0 1 2\n"),
+            row(InputKind::Short, 1, 0),
+        ),
+        (
+            "a letter in the second row",
+            (2, 0, "0 0 0\n1 a 0\n"),
+            row(InputKind::Number, 0, 1),
+        ),
+        (
+            "a coordinate past the range",
+            (1, 0, "0 0 -2147483648\n"),
+            row(InputKind::Range, 0, 0),
+        ),
+        (
+            "an index that is too large",
+            (4, 1, "0 0 0\n4 0 0\n4 4 0\n0 4 0\n3 0 1 4\n"),
+            row(InputKind::BadIndex { index: 4 }, 1, 0),
+        ),
+        (
+            "an index below zero in the second face",
+            (3, 2, "0 0 0\n4 0 0\n4 4 0\n3 0 1 2\n3 0 1 -1\n"),
+            row(InputKind::BadIndex { index: -1 }, 1, 1),
+        ),
+        (
+            "one more than the widest axis",
+            (2, 0, "0 0 0\n1073741825 0 0\n"),
+            Status::Extent {
+                axis: 0,
+                least: 0,
+                greatest: 1073741825,
+            },
+        ),
+        (
+            "a short row behind a wide one",
+            (2, 0, "0 0 0\n1073741825 0\n"),
+            row(InputKind::Short, 0, 1),
+        ),
+    ];
+    for (name, mesh, status) in refused {
+        let text = mesh_text(alloc, mesh)?;
+        assert_eq!(rt;
+            refusal(&rt, alloc, text.as_bytes(), name)?,
+            status,
+            "at {name}"
+        );
+    }
+    Ok(())
+}
+
+// The mesh of one triangle in a binary format, with coordinates of a type and a property between.
+fn binary_head(alloc: Global, format: &str, kind: &str, between: &str) -> Result<Vec<u8>, Fail> {
+    let text = format!(in alloc;
+        "ply\nformat {format} 1.0\nelement vertex 3\nproperty {kind} x\nproperty {kind} y\n{between}property {kind} z\nelement face 1\nproperty list uchar int vertex_indices\nend_header\n"
+    )?;
+    Ok(text.as_bytes().to_vec(alloc)?)
+}
+
+const LITTLE_SHORTS: [u8; 31] = [
+    0, 0, 0, 0, 0, 0, 4, 0, 0, 0, 0, 0, 0, 0, 4, 0, 0, 0, 3, 0, 0, 0, 0, 1, 0, 0, 0, 2, 0, 0, 0,
+];
+
+const BIG_SHORTS: [u8; 31] = [
+    0, 0, 0, 0, 0, 0, 0, 4, 0, 0, 0, 0, 0, 0, 0, 4, 0, 0, 3, 0, 0, 0, 0, 0, 0, 0, 1, 0, 0, 0, 2,
+];
+
+const LITTLE_BYTES_AND_FLOATS: [u8; 34] = [
+    0, 0, 1, 2, 3, 4, 0, 4, 0, 0, 0, 128, 63, 0, 0, 4, 255, 255, 255, 255, 0, 3, 0, 0, 0, 0, 1, 0,
+    0, 0, 2, 0, 0, 0,
+];
+
+#[test]
+fn binary_meshes_are_read(rt: HostRuntime) -> Result<(), Fail> {
+    let alloc = rt.alloc();
+    let part = mesh_text(alloc, ONE_TRIANGLE)?;
+    let rows: [(&str, &str, &str, &[u8]); 3] = [
+        ("binary_little_endian", "short", "", &LITTLE_SHORTS),
+        ("binary_big_endian", "int16", "", &BIG_SHORTS),
+        (
+            "binary_little_endian",
+            "uchar",
+            "property float nx\n",
+            &LITTLE_BYTES_AND_FLOATS,
+        ),
+    ];
+    for (format, kind, between, data) in rows {
+        let mut bytes = binary_head(alloc, format, kind, between)?;
+        bytes.extend_from_slice(data)?;
+        let mut input = source(alloc, &bytes, &[])?;
+        let mut out = output(alloc, &[])?;
+        let status = run_words(&rt, alloc, &["finest"], &mut input, &mut out)?;
+        assert_eq!(rt; status, Status::Ok, "at {format} {kind}");
+        assert_eq!(rt; out.part_at(0), part.as_bytes(), "at {format} {kind}");
+        let last = bytes.len() - 1;
+        assert_eq!(rt;
+            refusal(&rt, alloc, &bytes[..last], format)?,
+            row(InputKind::Short, 1, 0),
+            "at {format} {kind} cut"
+        );
+    }
+    Ok(())
+}
+
+const SCANNED: &str =
+    "ply\nformat ascii 1.0\ncomment zipper output\nelement vertex 3\nproperty float x\nproperty float y\nproperty float z\nproperty float confidence\nproperty float intensity\nelement face 1\nproperty list uchar int vertex_indices\nend_header\n-0.0378297 0.12794 0.00447467 0.850855 0.5 \n-0.0447794 0.128887 0.00190497 0.900159 0.5 \n0.0000015 -2.5e-6 1 1 0.5\n3 0 1 2 \n";
+
+const SCANNED_PART: &str =
+    "ply\nformat ascii 1.0\ncomment tpz digits 6\nelement vertex 3\nproperty int x\nproperty int y\nproperty int z\nelement face 1\nproperty list uchar int vertex_indices\nend_header\n-37830 127940 4475\n-44779 128887 1905\n2 -3 1000000\n3 0 1 2\n";
+
+// Elements before, between and behind the used ones, a list among the coordinates, and a row of four lines.
+const EXTRA: &str =
+    "ply\nformat ascii 1.0\nobj_info made by hand\nelement face 1\nproperty list uchar int vertex_indices\nelement empty 2147483648\nelement vertex 3\nproperty int x\nproperty list uchar float colours\nproperty int y\nproperty int z\nelement edge 1\nproperty int a\nelement face 2\nproperty uchar flags\nproperty list uchar int vertex_index\nelement more 1\nproperty char c\nend_header\n3 9 9 9\n0 0 0 0\n4 2 0.5 0.5\n0\n0\n0 1 1 4 0\n77\n1 3 0 1 2\n0 2 0 1\nx\n";
+
+#[test]
+fn ascii_meshes_of_other_programs_are_read(rt: HostRuntime) -> Result<(), Fail> {
+    let alloc = rt.alloc();
+    let one = mesh_text(alloc, ONE_TRIANGLE)?;
+    let mut ended = Vec::new(alloc);
+    for byte in one.as_bytes() {
+        if *byte == b'\n' {
+            ended.push(b'\r')?;
+        }
+        ended.push(*byte)?;
+    }
+    let rows: [(&str, &[u8], &[u8]); 3] = [
+        (
+            "a scanned mesh",
+            SCANNED.as_bytes(),
+            SCANNED_PART.as_bytes(),
+        ),
+        ("extra elements", EXTRA.as_bytes(), one.as_bytes()),
+        ("lines with returns", &ended, one.as_bytes()),
+    ];
+    for (name, bytes, part) in rows {
+        let mut input = source(alloc, bytes, &[])?;
+        let mut out = output(alloc, &[])?;
+        let status = run_words(&rt, alloc, &["finest"], &mut input, &mut out)?;
+        assert_eq!(rt; status, Status::Ok, "at {name}");
+        assert_eq!(rt; out.part_at(0), part, "at {name}");
+        assert_eq!(rt;
+            out.notes(),
+            b"finest tris 1 dropped 0 vertices 3\n",
+            "at {name}"
+        );
+    }
+    Ok(())
+}
+
+// The first read of the input fails, or a call of the work file: its first, and one that has no room.
+#[test]
+fn a_failing_device_is_told(rt: HostRuntime) -> Result<(), Fail> {
+    let alloc = rt.alloc();
+    let mut out = output(alloc, &[1])?;
+    let mut input = mesh_source(alloc, ONE_TRIANGLE, &[1])?;
+    let status = run_words(&rt, alloc, &["finest"], &mut input, &mut out)?;
+    assert_eq!(rt; status, Status::InputFault);
+    let rows: [(u64, &[u64]); 4] = [(4096, &[1]), (4096, &[2]), (4096, &[4]), (35, &[])];
+    for (room, fails) in rows {
+        let mut input = mesh_source(alloc, ONE_TRIANGLE, &[])?;
+        let mut work = blob(alloc, room, fails)?;
+        let status = run_over(&rt, alloc, &["finest"], &mut input, &mut work, &mut out)?;
+        assert_eq!(rt; status, Status::WorkFault, "at {room} {fails:?}");
+    }
+    assert_eq!(rt; out.part(), Err(Failed));
     Ok(())
 }
 
@@ -222,8 +458,32 @@ fn each_status_has_its_code_and_line(rt: HostRuntime) -> Result<(), Fail> {
             2,
             "tpz: usage: tpz FOLDER COMMAND [--NAME VALUE]",
         ),
-        (Status::NotPlain, 3, "tpz: input is not plain"),
+        (
+            line(InputKind::NotPly, 1),
+            3,
+            "tpz: bad input: NotPly at line 1",
+        ),
+        (
+            row(InputKind::BadIndex { index: -7 }, 1, 9),
+            3,
+            "tpz: bad input: BadIndex -7 at element 1 row 9",
+        ),
+        (
+            Status::Extent {
+                axis: 2,
+                least: -5,
+                greatest: 1073741820,
+            },
+            4,
+            "tpz: extent: axis 2 from -5 to 1073741820; use fewer --digits",
+        ),
         (Status::InputFault, 5, "tpz: input failed"),
+        (Status::WorkFault, 8, "tpz: work file failed"),
+        (
+            Status::WorkDamage { offset: 24 },
+            9,
+            "tpz: work file damaged at 24",
+        ),
         (Status::OutFault, 14, "tpz: output failed"),
         (Status::Memory, 16, "tpz: out of memory"),
     ];

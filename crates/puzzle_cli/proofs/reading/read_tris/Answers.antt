@@ -52,7 +52,7 @@ tris-preserved g c =
         read.0 ++ (given.0 ++ given.1 ∷ []),
         more_read _ _ _ read.0 (given.0 ++ given.1 ∷ []) read.1 given.2.faces,
         one_whole c.args.frame.now _ read.0 given.0 given.1 c.in-Some.t c.tris.tris.items _ c.tris.faces.dropped _ read.2 c.in_ok-push.ensures.items
-        given.2.dropped (c.in-Ok.ensures.whole c.in-Some.t (ap Ok c.in-Some.is)) more,
+            given.2.dropped (c.in-Ok.ensures.whole c.in-Some.t (ap Ok c.in-Some.is)) more,
       );
       input_later = omega (arith, c.tris.invariant.input_later, c.next_tri.ensures.later.0);
       work_later = omega (arith, c.tris.invariant.work_later, c.next_tri.ensures.later.1);
