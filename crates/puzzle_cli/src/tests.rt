@@ -142,18 +142,35 @@ fn mesh_source(alloc: Global, mesh: Mesh, fails: &[u64]) -> Result<MemSource, Fa
     source(alloc, text.as_bytes(), fails)
 }
 
+// Runs `finest` over these bytes, and sees that it writes this part and this note alone.
+fn expect_part(
+    rt: &impl Abort,
+    alloc: Global,
+    bytes: &[u8],
+    part: &[u8],
+    note: &str,
+    name: &str,
+) -> Result<(), Fail> {
+    let mut input = source(alloc, bytes, &[])?;
+    let mut out = output(alloc, &[])?;
+    let status = run_words(rt, alloc, &["finest"], &mut input, &mut out)?;
+    assert_eq!(rt; status, Status::Ok, "at {name}");
+    assert_eq!(rt; out.part_count(), 1, "at {name}");
+    assert_eq!(rt; out.part_at(0), part, "at {name}");
+    assert_eq!(rt; out.notes(), note.as_bytes(), "at {name}");
+    Ok(())
+}
+
+// The note of one triangle.
+const NOTE: &str = "finest tris 1 dropped 0 vertices 3\n";
+
 #[test]
 fn a_mesh_is_written_root_by_root(rt: HostRuntime) -> Result<(), Fail> {
     let alloc = rt.alloc();
     for (name, mesh, part, note) in WRITTEN {
+        let text = mesh_text(alloc, mesh)?;
         let part = mesh_text(alloc, part)?;
-        let mut input = mesh_source(alloc, mesh, &[])?;
-        let mut out = output(alloc, &[])?;
-        let status = run_words(&rt, alloc, &["finest"], &mut input, &mut out)?;
-        assert_eq!(rt; status, Status::Ok, "at {name}");
-        assert_eq!(rt; out.part_count(), 1, "at {name}");
-        assert_eq!(rt; out.part_at(0), part.as_bytes(), "at {name}");
-        assert_eq!(rt; out.notes(), note.as_bytes(), "at {name}");
+        expect_part(&rt, alloc, text.as_bytes(), part.as_bytes(), note, name)?;
     }
     Ok(())
 }
@@ -344,16 +361,15 @@ fn binary_meshes_are_read(rt: HostRuntime) -> Result<(), Fail> {
     for (format, kind, between, data) in rows {
         let mut bytes = binary_head(alloc, format, kind, between)?;
         bytes.extend_from_slice(data)?;
-        let mut input = source(alloc, &bytes, &[])?;
-        let mut out = output(alloc, &[])?;
-        let status = run_words(&rt, alloc, &["finest"], &mut input, &mut out)?;
-        assert_eq!(rt; status, Status::Ok, "at {format} {kind}");
-        assert_eq!(rt; out.part_at(0), part.as_bytes(), "at {format} {kind}");
-        let last = bytes.len() - 1;
+        let name = format!(in alloc; "{format} {kind}")?;
+        expect_part(&rt, alloc, &bytes, part.as_bytes(), NOTE, name.as_str())?;
+        let Some((_, cut)) = bytes.split_last() else {
+            return Ok(());
+        };
         assert_eq!(rt;
-            refusal(&rt, alloc, &bytes[..last], format)?,
+            refusal(&rt, alloc, cut, name.as_str())?,
             row(InputKind::Short, 1, 0),
-            "at {format} {kind} cut"
+            "at {name} cut"
         );
     }
     Ok(())
@@ -390,16 +406,7 @@ fn ascii_meshes_of_other_programs_are_read(rt: HostRuntime) -> Result<(), Fail> 
         ("lines with returns", &ended, one.as_bytes()),
     ];
     for (name, bytes, part) in rows {
-        let mut input = source(alloc, bytes, &[])?;
-        let mut out = output(alloc, &[])?;
-        let status = run_words(&rt, alloc, &["finest"], &mut input, &mut out)?;
-        assert_eq!(rt; status, Status::Ok, "at {name}");
-        assert_eq!(rt; out.part_at(0), part, "at {name}");
-        assert_eq!(rt;
-            out.notes(),
-            b"finest tris 1 dropped 0 vertices 3\n",
-            "at {name}"
-        );
+        expect_part(&rt, alloc, bytes, part, NOTE, name)?;
     }
     Ok(())
 }
