@@ -3,9 +3,12 @@
 
 mod element;
 mod fault;
+mod form;
 mod head;
 mod line;
+mod names;
 mod number;
+mod seen;
 mod text;
 mod words;
 
