@@ -1,6 +1,7 @@
 //! The header of a PLY input, and the numbers of its text.
 #![tactic(auto)]
 
+mod checks;
 mod element;
 mod fault;
 mod form;
