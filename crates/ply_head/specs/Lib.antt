@@ -3,3 +3,4 @@ pub mod Lines
 pub mod Headers
 pub mod Heads
 pub mod Forms
+pub mod Roles

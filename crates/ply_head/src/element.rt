@@ -74,6 +74,17 @@ pub struct Element {
 }
 
 impl Element {
+    /// An element of these parts.
+    pub(crate) fn new(count: u64, used: Used, properties: Vec<Property>) -> Self
+        ensures { result ≡ record { count = count; used = used; properties = properties.items } }
+    {
+        Element {
+            count,
+            used,
+            properties: Properties { items: properties },
+        }
+    }
+
     /// How many rows it has.
     pub fn count(&self) -> u64
         ensures { result ≡ self.now.count }

@@ -11,6 +11,7 @@ mod names;
 mod number;
 mod seen;
 mod text;
+mod used;
 mod words;
 
 pub use element::{Element, Format, Kind, Property, Role, Used};
