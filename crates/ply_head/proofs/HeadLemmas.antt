@@ -1,6 +1,6 @@
 -- Which test of a line holds, and what a line keeps.
 use Rattle.std.proofs.Common.{◌≡◌, ℕ, suc, ◌+◌, ◌<◌, ◌≤◌, Bool, true, false, ◌&&◌, ◌||◌, refl, List, [], ◌∷◌, ◌++◌, length, get_or, arith, ap, sym, ◌∙◌, subst, length-append}
-use Rattle.std.specs.Prelude.{◌==◌, nat_lt, nat_le, not, bytes_eq, codes, find, Option, Some, None, option_map, option_to_list, All}
+use Rattle.std.specs.Prelude.{◌==◌, nat_lt, nat_le, not, bytes_eq, codes, find, Option, Some, None, option_map, option_to_list, take, All}
 use Rattle.std.specs.Option.{option_map_or}
 use Rattle.std.specs.List.{list_any, after_first, position_or_len}
 use Rattle.std.proofs.lemmas.Bool.Decides.{nat_tests}
@@ -15,6 +15,7 @@ use Rattle.ply_head.specs.declared.fault.HeadFault.TheVariants as fault
 use Rattle.ply_head.specs.declared.text.Line.{Line}
 use Rattle.ply_head.specs.Headers.{Seen, Named, Declared, fault_in, faults, form, Form, Passed, FormatLine, ElementLine, ScalarLine, ListLine, EndLine, NoForm, is_end, is_vertex, is_face, has_coordinates, has_too_many, with_form, with_last, declared, kind_of, used_elements}
 use Rattle.ply_head.specs.Heads.{IsRefusal, IsLaidOut, IsSmall}
+use Rattle.ply_head.specs.Steps.{first_of}
 use Rattle.ply_head.proofs.LayoutLemmas.{IsTidy, IsTidyElement, IsPlain, parted, parted_any, laid_out, small}
 
 -- a line past the limit behind the first
@@ -44,6 +45,11 @@ not_false false not_b = absurd (cc)
 pub ended : (s : Seen) (l : Line) → fault_in s l ≡ None → l.is_ended ≡ true
 unfolding NoneHolds
 ended s l none = not_false l.is_ended (none_holds (faults s l) none).1.1.0
+
+-- a line that is refused by none of the first nine tests brings not too many
+pub few_step : (s : Seen) (l : Line) → first_of (take 9 (faults s l)) ≡ None → has_too_many s (form l) ≡ false
+unfolding NoneHolds
+few_step s l none = (none_holds (take 9 (faults s l)) none).1.1.1.1.1.1.0
 
 -- what is refused stands at a line
 AllRefuse : List (Bool × HeadFault) → Type 0

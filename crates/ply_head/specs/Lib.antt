@@ -4,3 +4,4 @@ pub mod Headers
 pub mod Heads
 pub mod Forms
 pub mod Roles
+pub mod Steps

@@ -1,6 +1,6 @@
 // The form of a line.
 ghost use Rattle.std.specs.Prelude.{◌≡◌, ◌||◌, ◌&&◌, map, bytes_eq, codes, if◌then◌else◌};
-ghost use Rattle.ply_head.specs.Headers.{form_of, FormatLine, ElementLine, ScalarLine, ListLine, EndLine, NoForm};
+ghost use Rattle.ply_head.specs.Headers.{form_of, is_end, FormatLine, ElementLine, ScalarLine, ListLine, EndLine, NoForm};
 ghost use Rattle.ply_head.specs.Forms.{seen_form};
 
 use crate::names::is_word;
@@ -45,6 +45,13 @@ pub fn form_of<'a>(words: &[&'a [u8]]) -> Form<'a>
         [word, list, a, b, c] => with_four(word, list, a, b, c),
         _ => Form::NoForm,
     }
+}
+
+/// Whether a line of this form ends the header.
+pub fn is_end(form: Form<'_>) -> bool
+    ensures { result ≡ is_end (seen_form form.entry) }
+{
+    matches!(form, Form::EndLine)
 }
 
 fn is_comment(word: &[u8]) -> bool

@@ -10,6 +10,7 @@ mod line;
 mod names;
 mod number;
 mod seen;
+mod step;
 mod text;
 mod used;
 mod words;
