@@ -1,4 +1,8 @@
 // Why a header or a number is refused.
+ghost use Rattle.std.specs.Prelude.{◌≡◌};
+ghost use Rattle.ply_head.specs.declared.fault.HeadFault.TheVariants.{Memory};
+
+use std::alloc::AllocError;
 
 /// Why a header isn't read. Each refusal has the number of its line, from 1, and is the first in the order of lines.
 #[derive(Clone, Copy, Debug, PartialEq, Eq)]
@@ -23,6 +27,14 @@ pub enum HeadFault {
     InputFault,
     /// Memory ran out.
     Memory,
+}
+
+impl From<AllocError> for HeadFault {
+    ghost from_gives = { λ _ e. e ≡ Memory };
+
+    fn from(_: AllocError) -> Self {
+        HeadFault::Memory
+    }
 }
 
 /// Why a text isn't a number that can be taken.

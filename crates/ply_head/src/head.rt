@@ -5,8 +5,12 @@ ghost use Rattle.tpz_io.specs.Causes.{Rose};
 ghost use Rattle.tpz_io.specs.Told.{ahead};
 ghost use Rattle.ply_head.specs.declared.fault.HeadFault.{HeadFault};
 ghost use Rattle.ply_head.specs.Headers.{default_digits, heading};
+ghost use Rattle.ply_head.specs.Steps.{full_fault};
 ghost use Rattle.ply_head.specs.Heads.{IsHeadOf, IsLaidOut, IsRefusal, IsSmall};
 
+use crate::line::{LineFault, LineReader};
+use crate::seen::Seen;
+use crate::step::Step;
 use crate::{Element, Format, HeadFault};
 use std::alloc::Global;
 use std::marker::Model;
@@ -81,5 +85,37 @@ pub fn read_head<I: Source>(alloc: Global, src: &mut I) -> Result<Head, HeadFaul
     ensures input { IsErrOf result HeadFault.InputFault → Rose (I.faults src.old) (I.faults src.new) }
     ensures later { I.faults src.old ≤ I.faults src.new }
 {
-    Err(HeadFault::Memory)
+    let mut lines = LineReader::new(alloc)?;
+    let mut seen = Seen::new(alloc);
+    'lines: loop {
+        let number = lines.number();
+        let line = match lines.next(alloc, src) {
+            Ok(line) => line,
+            Err(LineFault::Full) => return Err(full_fault(number)),
+            Err(LineFault::Input) => return Err(HeadFault::InputFault),
+            Err(LineFault::Memory) => return Err(HeadFault::Memory),
+        };
+        match seen.take(alloc, &line)? {
+            Step::More => {}
+            Step::Done(elements) => {
+                return Ok(Head {
+                    format: seen.format.unwrap_or(Format::Ascii),
+                    elements,
+                    reader: lines.into_reader(),
+                });
+            }
+            Step::Refused(fault) => return Err(fault),
+        }
+    }
+}
+
+// Why a line that ends past the limit is refused: the first isn't `ply`.
+fn full_fault(number: u64) -> HeadFault
+    ensures { result ≡ full_fault number }
+{
+    if number == 1 {
+        HeadFault::NotPly { line: number }
+    } else {
+        HeadFault::TooMany { line: number }
+    }
 }
