@@ -8,6 +8,7 @@ ghost use Rattle.ply_head.specs.Headers.{default_digits, heading};
 ghost use Rattle.ply_head.specs.Steps.{full_fault};
 ghost use Rattle.ply_head.specs.Heads.{IsHeadOf, IsLaidOut, IsRefusal, IsSmall};
 
+use crate::checks::has_float_coordinate;
 use crate::line::{LineFault, LineReader};
 use crate::seen::Seen;
 use crate::step::Step;
@@ -56,9 +57,22 @@ impl Head {
 
     /// The elements, in order.
     pub fn elements(&self) -> &[Element]
-        ensures { result.now ≡ self.now.elements }
+        ensures elements { result.now ≡ self.now.elements }
+        ensures laid_out { IsLaidOut result.now }
+        ensures small { IsSmall result.now }
     {
         self.elements.as_slice()
+    }
+
+    /// The digits of a number where none are asked for: 6 where a used coordinate is a float, and else 0.
+    pub fn default_digits(&self) -> u8
+        ensures { result ≡ default_digits self.now.elements }
+    {
+        if has_float_coordinate(self.elements()) {
+            6
+        } else {
+            0
+        }
     }
 
     /// The parts, for a reader of the rows.
