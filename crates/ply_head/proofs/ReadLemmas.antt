@@ -1,6 +1,7 @@
 -- How one line after another says what the whole header says.
 use Rattle.std.proofs.Common.{◌≡◌, ℕ, suc, ◌+◌, ◌<◌, ◌≤◌, ◌-◌, Bool, true, false, cond, MatchBool, get_or, refl, List, [], ◌∷◌, length, take, arith, ap, sym, ◌∙◌, subst}
 use Rattle.std.specs.Prelude.{◌==◌, nat_lt, bytes_eq, codes, Option, Some, None, option_map, Result, Ok, Err, if◌then◌else◌}
+use Rattle.std.specs.Option.{ForSome}
 use Rattle.std.specs.Str.Lines.{strip_carriage_return}
 use Rattle.std.proofs.lemmas.Bool.Decides.{nat_tests}
 use Rattle.std.proofs.lemmas.Slice.Eq.{bytes_eq-Decides}
@@ -14,11 +15,22 @@ use Rattle.ply_head.specs.Headers.{Seen, Heading, nothing_seen, fault_in, form, 
 use Rattle.ply_head.specs.Steps.{full_fault}
 use Rattle.ply_head.proofs.HeadLemmas.{too_many, not_ply}
 
--- a line that is taken
-pub more_told : (s : Seen) (l : Line) (rest : Option (List Line)) → fault_in s l ≡ None → is_end (form l) ≡ false
+with_taken : (s : Seen) (l : Line) (rest : Option (List Line)) → fault_in s l ≡ None → is_end (form l) ≡ false
     → option_map (heading_from s) (with_line l rest) ≡ option_map (heading_from (with_form s (form l))) rest
-more_told s l None none going = refl
-more_told s l (Some ls) none going = rw (none, going) refl
+with_taken s l None none going = refl
+with_taken s l (Some ls) none going = rw (none, going) refl
+
+at_true : (b : Bool) (P Q : Type 0) → MatchBool b P Q → b ≡ true → P
+at_true true P Q fact holds = fact
+at_true false P Q fact holds = absurd (cc)
+
+-- a line that is taken
+pub more_told : (s : Seen) (l : Line) (old rest : Option (List Line))
+    → MatchBool l.is_ended (old ≡ with_line l rest) (ForSome old (λ ls. ls ≡ l ∷ [])) → l.is_ended ≡ true
+    → fault_in s l ≡ None → is_end (form l) ≡ false → option_map (heading_from s) old ≡ option_map (heading_from (with_form s (form l))) rest
+more_told s l old rest told whole none going =
+    ap (option_map (heading_from s)) (at_true l.is_ended (old ≡ with_line l rest) (ForSome old (λ ls. ls ≡ l ∷ [])) told whole)
+    ∙ with_taken s l rest none going
 
 test_holds : (a b : ℕ) → a < b → nat_lt a b ≡ true
 test_holds a b lt = grind (arith, nat_tests)
@@ -69,8 +81,3 @@ full_refused s (Some start) (Some rest) number at told past first bytes is =
     let here : heading start ≡ heading_from s (numbered number at (parts rest)) = cc in
     subst (λ (b : Bytes). heading b ≡ Err (full_fault number)) same
     (here ∙ at_line s number at (parts rest) first (past (numbered number at (parts rest)) refl))
-
--- which of two facts it is
-pub at_true : (b : Bool) (P Q : Type 0) → MatchBool b P Q → b ≡ true → P
-at_true true P Q fact holds = fact
-at_true false P Q fact holds = absurd (cc)

@@ -7,7 +7,7 @@ use Rattle.ply_head.specs.Lines.{lines_told}
 use Rattle.ply_head.specs.Headers.{Seen, heading_from}
 use Rattle.ply_head.specs.Steps.{full_fault}
 use Rattle.ply_head.proofs.HeadLemmas.{ended, is_refusal, tidy_step, at_the_end}
-use Rattle.ply_head.proofs.ReadLemmas.{more_told, full_refused, at_true}
+use Rattle.ply_head.proofs.ReadLemmas.{more_told, full_refused}
 use Rattle.ply_head.proofs.head.read_head.Goals as goal
 
 pub returns-in-Err-Full-clause-refused : goal.returns-in-Err-Full-clause-refused
@@ -34,11 +34,12 @@ pub lines-preserved : goal.lines-preserved
 lines-preserved g c =
     let step = rw c.in-More.is at c.in_ok-take.ensures in
     let whole : c.in-Ok.line.is_ended ≡ true = ended c.lines.seen c.in-Ok.line step.0 in
-    let line = at_true c.in-Ok.line.is_ended _ _ c.in-Ok.ensures.line whole in
     let passed = c.in-Ok.ensures.passed whole in
+    let before = lines_told c.lines.lines.number c.lines.lines.taken (ahead c.lines.lines.held (g.I.Source.left c.lines.src)) in
+    let rest = lines_told c.next.new.self.number c.next.new.self.taken (ahead c.next.new.self.held (g.I.Source.left c.next.new.source)) in
     record {
-      told = c.lines.invariant.told ∙ ap (option_map (heading_from c.lines.seen)) line ∙ more_told c.lines.seen c.in-Ok.line _ step.0 step.1
-          ∙ ap (λ (s : Seen). option_map (heading_from s) (lines_told c.next.new.self.number c.next.new.self.taken (ahead c.next.new.self.held (g.I.Source.left c.next.new.source)))) (sym step.2);
+      told = c.lines.invariant.told ∙ more_told c.lines.seen c.in-Ok.line before rest c.in-Ok.ensures.line whole step.0 step.1
+          ∙ ap (λ (s : Seen). option_map (heading_from s) rest) (sym step.2);
       rest = c.in-Ok.ensures.rest (g.I.Source.left c.args.src.now) c.lines.invariant.rest whole;
       tidy = rw step.2 (tidy_step c.lines.seen c.in-Ok.line step.0 c.lines.invariant.tidy);
       first = λ one. absurd (omega (arith, passed.number, one));
