@@ -12,13 +12,13 @@ use crate::number::{are_all_digits, value_after};
 use crate::seen::{Declared, Named, Seen};
 use crate::{Element, Format, Property, Role};
 
-/// The most rows of an element.
+// The most rows of an element.
 const MOST_ROWS: u128 = 2_147_483_648;
 
-/// The most elements.
+// The most elements.
 const MOST_ELEMENTS: usize = 64;
 
-/// The most properties of all elements together.
+// The most properties of all elements together.
 const MOST_PROPERTIES: usize = 256;
 
 /// Whether the format is due at this line, and the line names none.

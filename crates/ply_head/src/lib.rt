@@ -1,4 +1,4 @@
-//! The header of a PLY input, and the numbers of its text.
+//! The header of a PLY input: what it declares, or why it is refused. And the decimal numbers of the text.
 #![tactic(auto)]
 
 mod checks;
