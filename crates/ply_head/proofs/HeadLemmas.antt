@@ -1,8 +1,8 @@
 -- Which test of a line holds, and what a line keeps.
-use Rattle.std.proofs.Common.{◌≡◌, ℕ, suc, ◌+◌, ◌<◌, ◌≤◌, Bool, true, false, ◌&&◌, ◌||◌, refl, List, [], ◌∷◌, ◌++◌, length, get_or, arith, ap, sym, ◌∙◌, subst, length-append}
-use Rattle.std.specs.Prelude.{◌==◌, nat_lt, nat_le, not, bytes_eq, codes, find, Option, Some, None, option_map, option_to_list, take, All}
+use Rattle.std.proofs.Common.{◌≡◌, ℕ, suc, ◌<◌, ◌≤◌, Bool, true, false, ◌&&◌, ◌||◌, refl, List, [], ◌∷◌, ◌++◌, length, arith, ap, sym, ◌∙◌, subst, length-append}
+use Rattle.std.specs.Prelude.{◌==◌, nat_lt, nat_le, not, bytes_eq, codes, find, Option, Some, None, option_map, take, All}
 use Rattle.std.specs.Option.{option_map_or}
-use Rattle.std.specs.List.{list_any, after_first, position_or_len}
+use Rattle.std.specs.List.{after_first, position_or_len}
 use Rattle.std.proofs.lemmas.Bool.Decides.{nat_tests}
 use Rattle.std.proofs.lemmas.Option.{slice_get_within}
 use Rattle.std.proofs.lemmas.List.Folds.{find_at}

@@ -1,17 +1,16 @@
 -- How one line after another says what the whole header says.
-use Rattle.std.proofs.Common.{◌≡◌, ℕ, suc, ◌+◌, ◌<◌, ◌≤◌, ◌-◌, Bool, true, false, cond, MatchBool, get_or, refl, List, [], ◌∷◌, length, take, arith, ap, sym, ◌∙◌, subst}
-use Rattle.std.specs.Prelude.{◌==◌, nat_lt, bytes_eq, codes, Option, Some, None, option_map, Result, Ok, Err, if◌then◌else◌}
+use Rattle.std.proofs.Common.{◌≡◌, ℕ, ◌+◌, ◌<◌, ◌-◌, Bool, true, false, cond, MatchBool, get_or, refl, List, [], ◌∷◌, length, take, arith, ap, ◌∙◌, subst}
+use Rattle.std.specs.Prelude.{◌==◌, nat_lt, bytes_eq, codes, Option, Some, None, option_map, Err, if◌then◌else◌}
 use Rattle.std.specs.Option.{ForSome}
 use Rattle.std.specs.Str.Lines.{strip_carriage_return}
 use Rattle.std.proofs.lemmas.Bool.Decides.{nat_tests}
 use Rattle.std.proofs.lemmas.Slice.Eq.{bytes_eq-Decides}
 use Rattle.std.proofs.lemmas.List.{length-take-le}
-use Rattle.ply_head.specs.declared.fault.HeadFault.{HeadFault}
 use Rattle.ply_head.specs.declared.fault.HeadFault.TheVariants.{NotPly, TooMany}
 use Rattle.ply_head.specs.declared.text.Line.{Line}
 use Rattle.tpz_base.specs.Texts.{Bytes}
 use Rattle.ply_head.specs.Lines.{parts, numbered, lines_told, with_line, EndsPast}
-use Rattle.ply_head.specs.Headers.{Seen, Heading, nothing_seen, fault_in, form, is_end, with_form, heading_from, heading}
+use Rattle.ply_head.specs.Headers.{Seen, nothing_seen, fault_in, form, is_end, with_form, heading_from, heading}
 use Rattle.ply_head.specs.Steps.{full_fault}
 use Rattle.ply_head.proofs.HeadLemmas.{too_many, not_ply}
 

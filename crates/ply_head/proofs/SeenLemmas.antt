@@ -1,5 +1,5 @@
 -- What the lines of a header have declared.
-use Rattle.std.proofs.Common.{◌≡◌, ℕ, List, [], ◌∷◌, ◌++◌, refl, ap}
+use Rattle.std.proofs.Common.{◌≡◌, List, [], ◌∷◌, ◌++◌, refl, ap}
 use Rattle.std.proofs.lemmas.List.{append-nil}
 use Rattle.ply_head.specs.Headers.{Named, Declared, with_last}
 

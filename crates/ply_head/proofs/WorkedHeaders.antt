@@ -1,10 +1,10 @@
 -- Headers that are read and refused.
 use Rattle.std.proofs.Common.{◌≡◌, ℕ, Bool, true, false, List, [], ◌∷◌, ◌++◌, refl, Ok, Err}
 use Rattle.std.specs.Prelude.{codes, Some, None, flat_map}
-use Rattle.ply_head.specs.declared.element.Format.TheVariants.{Ascii, Little, Big}
+use Rattle.ply_head.specs.declared.element.Format.TheVariants.{Ascii, Little}
 use Rattle.ply_head.specs.declared.element.Kind.TheVariants.{U8, I32, F32}
 use Rattle.ply_head.specs.declared.element.Role.TheVariants.{X, Y, Z, Indices, Skip}
-use Rattle.ply_head.specs.declared.element.Used.TheVariants.{Vertex, Face, Other}
+use Rattle.ply_head.specs.declared.element.Used.TheVariants.{Vertex, Face}
 use Rattle.ply_head.specs.declared.fault.HeadFault.TheVariants as fault
 use Rattle.std.specs.List.{repeat}
 use Rattle.ply_head.specs.declared.text.Line.{Line}

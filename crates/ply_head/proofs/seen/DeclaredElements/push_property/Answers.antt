@@ -1,4 +1,4 @@
-use Rattle.std.proofs.Common.{◌≡◌, [], ◌∷◌, refl}
+use Rattle.std.proofs.Common.{[], ◌∷◌, refl}
 use Rattle.ply_head.proofs.SeenLemmas.{with_last-front}
 use Rattle.ply_head.proofs.seen.DeclaredElements.push_property.Goals as goal
 
