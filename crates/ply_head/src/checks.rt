@@ -223,6 +223,7 @@ pub fn is_index_list(named: &Named) -> bool
     names_indices(named.name.as_slice()) && named.property.count_kind.is_some()
 }
 
+/// Whether the rows are written as bytes.
 pub fn is_binary(format: Option<Format>) -> bool
     ensures { result ≡ is_binary format }
 {

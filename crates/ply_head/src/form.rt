@@ -8,26 +8,30 @@ use crate::names::is_word;
 /// The form of a line, by its words.
 #[derive(Clone, Copy)]
 pub enum Form<'a> {
-    /// Nothing is read of it.
+    /// Nothing is read of it: it is blank, a comment, or the first line.
     Passed,
+    /// `format NAME VERSION`.
     FormatLine {
         format: &'a [u8],
         version: &'a [u8],
     },
+    /// `element NAME COUNT`.
     ElementLine {
         name: &'a [u8],
         count: &'a [u8],
     },
+    /// `property TYPE NAME`.
     ScalarLine {
         kind: &'a [u8],
         name: &'a [u8],
     },
+    /// `property list TYPE TYPE NAME`: the count's type, then an item's.
     ListLine {
         count_kind: &'a [u8],
         kind: &'a [u8],
         name: &'a [u8],
     },
-    /// It ends the header.
+    /// `end_header`.
     EndLine,
     /// No line of a header is so.
     NoForm,

@@ -57,9 +57,7 @@ impl Head {
 
     /// The elements, in order.
     pub fn elements(&self) -> &[Element]
-        ensures elements { result.now ≡ self.now.elements }
-        ensures laid_out { IsLaidOut result.now }
-        ensures small { IsSmall result.now }
+        ensures { result.now ≡ self.now.elements }
     {
         self.elements.as_slice()
     }

@@ -50,6 +50,7 @@ pub fn kind_of(name: &[u8]) -> Option<Kind>
     None
 }
 
+/// Whether a type is of the kind float.
 pub fn is_float(kind: Kind) -> bool
     ensures { result ≡ is_float kind }
 {

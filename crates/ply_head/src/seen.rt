@@ -30,6 +30,7 @@ impl Model for NamedProperties {
 }
 
 impl NamedProperties {
+    /// No property.
     pub fn new(alloc: Global) -> Self
         ensures { result ≡ [] }
     {
@@ -38,6 +39,7 @@ impl NamedProperties {
         }
     }
 
+    /// Adds a property behind the others. Where memory runs out, it may be lost.
     pub fn push(&mut self, named: Named) -> Result<(), AllocError>
         ensures { IfOk result (λ _. self.new ≡ self.old ++ named ∷ []) }
     {
@@ -45,6 +47,7 @@ impl NamedProperties {
         Ok(())
     }
 
+    /// The properties, in order.
     pub fn as_slice(&self) -> &[Named]
         ensures { result.now ≡ self.now }
     {
@@ -76,6 +79,7 @@ impl Model for DeclaredElements {
 }
 
 impl DeclaredElements {
+    /// No element.
     pub fn new(alloc: Global) -> Self
         ensures { result ≡ [] }
     {
@@ -84,6 +88,7 @@ impl DeclaredElements {
         }
     }
 
+    /// Adds an element behind the others. Where memory runs out, it may be lost.
     pub fn push(&mut self, element: Declared) -> Result<(), AllocError>
         ensures { IfOk result (λ _. self.new ≡ self.old ++ element ∷ []) }
     {
@@ -91,7 +96,7 @@ impl DeclaredElements {
         Ok(())
     }
 
-    /// Adds a property to the last element, if there is one.
+    /// Adds a property to the last element, if there is one. Where memory runs out, that element may be lost.
     pub fn push_property(&mut self, named: Named) -> Result<(), AllocError>
         ensures { IfOk result (λ _. self.new ≡ with_last (named ∷ []) self.old) }
     {
@@ -102,6 +107,7 @@ impl DeclaredElements {
         Ok(())
     }
 
+    /// The elements, in order.
     pub fn as_slice(&self) -> &[Declared]
         ensures { result.now ≡ self.now }
     {

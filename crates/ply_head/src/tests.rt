@@ -131,7 +131,7 @@ const REFUSED: [(&str, HeadFault); 32] = [
 ];
 
 // Two refusals that hold at one line, and the one that comes first.
-const IN_ORDER: [(&str, &str, HeadFault); 13] = [
+const IN_ORDER: [(&str, &str, HeadFault); 15] = [
     (
         "no line feed behind another word than `ply`",
         "xyz",
@@ -197,10 +197,20 @@ const IN_ORDER: [(&str, &str, HeadFault); 13] = [
         "ply\nformat binary_little_endian 1.0\nelement vertex 1\nproperty float x\nproperty float y\nproperty float z\nend_header\n",
         HeadFault::NoFace { line: 7 },
     ),
+    (
+        "no line feed, and no face",
+        "ply\nformat ascii 1.0\nelement vertex 1\nproperty float x\nproperty float y\nproperty float z\nend_header",
+        HeadFault::Line { line: 7 },
+    ),
+    (
+        "no line feed, and a float in binary",
+        "ply\nformat binary_little_endian 1.0\nelement vertex 1\nproperty float x\nproperty float y\nproperty float z\nelement face 1\nproperty list uchar int vertex_indices\nend_header",
+        HeadFault::Line { line: 9 },
+    ),
 ];
 
 // The same of long inputs.
-const LONG: [(&str, Text, HeadFault); 13] = [
+const LONG: [(&str, Text, HeadFault); 16] = [
     (
         "the 65th element",
         (
@@ -282,7 +292,7 @@ const LONG: [(&str, Text, HeadFault); 13] = [
         HeadFault::TooMany { line: 3 },
     ),
     (
-        "a long line that ends too early a header",
+        "an end with too many blanks",
         ("ply\nformat ascii 1.0\nend_header", " ", 1_048_576, "\n"),
         HeadFault::TooMany { line: 3 },
     ),
@@ -291,7 +301,36 @@ const LONG: [(&str, Text, HeadFault); 13] = [
         ("ply\nformat ascii 1.0\ncomment ", "a", 1_048_546, "\n"),
         HeadFault::Line { line: 4 },
     ),
+    (
+        "an end with too many blanks, and no face",
+        (
+            "ply\nformat ascii 1.0\nelement vertex 1\nproperty float x\nproperty float y\nproperty float z\nend_header",
+            " ",
+            1_048_576,
+            "\n",
+        ),
+        HeadFault::TooMany { line: 7 },
+    ),
+    (
+        "an end with too many blanks, and a float in binary",
+        (
+            "ply\nformat binary_little_endian 1.0\nelement vertex 1\nproperty float x\nproperty float y\nproperty float z\nelement face 1\nproperty list uchar int vertex_indices\nend_header",
+            " ",
+            1_048_576,
+            "\n",
+        ),
+        HeadFault::TooMany { line: 9 },
+    ),
+    (
+        "an end one byte too late",
+        ("ply\nformat ascii 1.0\ncomment ", "a", 1_048_414, END),
+        HeadFault::TooMany { line: 10 },
+    ),
 ];
+
+// The end of a header, behind a comment.
+const END: &str =
+    "\nelement vertex 1\nproperty float x\nproperty float y\nproperty float z\nelement face 1\nproperty list uchar int vertex_indices\nend_header\n";
 
 #[test]
 fn a_header_is_refused_at_its_first_wrong_line(rt: HostRuntime) -> Result<(), Fail> {
@@ -396,6 +435,14 @@ const NUMBERS: [(&str, u8, Result<i64, NumberFault>); 44] = [
     ("inf", 0, Err(NumberFault::Form)),
     ("0x1", 0, Err(NumberFault::Form)),
 ];
+
+#[test]
+fn a_header_may_have_1048576_bytes(rt: HostRuntime) -> Result<(), Fail> {
+    let alloc = rt.alloc();
+    let text = ("ply\nformat ascii 1.0\ncomment ", "a", 1_048_413, END);
+    assert_eq!(rt; fault_of(alloc, text, &[])?, None);
+    Ok(())
+}
 
 #[test]
 fn numbers_are_rounded_or_refused(rt: HostRuntime) -> Result<(), Fail> {
