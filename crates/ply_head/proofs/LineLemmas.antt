@@ -1,7 +1,7 @@
 -- How bytes are split at line feeds.
-use Rattle.std.proofs.Common.{◌≡◌, ℕ, suc, ◌+◌, ◌<◌, List, [], ◌∷◌, ◌++◌, length, refl, sym, ◌∙◌, ap, subst, arith, Bool, true, false, cond, ◌||◌}
+use Rattle.std.proofs.Common.{◌≡◌, ℕ, suc, ◌+◌, ◌<◌, List, [], ◌∷◌, ◌++◌, length, drop, refl, sym, ◌∙◌, ap, subst, arith, Bool, true, false, cond, ◌||◌}
 use Rattle.std.specs.List.{list_any, onto_first}
-use Rattle.std.proofs.lemmas.List.{append-nil}
+use Rattle.std.proofs.lemmas.List.{append-nil, drop-drop, drop_at}
 use Rattle.std.proofs.lemmas.Bool.Decides.{nat_tests}
 use Rattle.std.specs.declared.option.Option.{Option}
 use Rattle.std.specs.declared.option.Option.TheVariants.{None, Some}
@@ -143,6 +143,26 @@ unfolding place
 line_full held left number at room most whole past v is =
     subst (λ (w : Place). (ls : List Line) → lines_told w.number w.taken (ahead w.held left) ≡ Some ls → EndsPast most ls) is
     (line_past (ahead held left) number at room most whole past)
+
+-- what is left behind a part and its line feed
+rest_behind : (new start : Option Bytes) (text : Bytes) (at : ℕ) → ahead text (ahead (10 ∷ []) new) ≡ option_map (drop at) start
+    → new ≡ option_map (drop (at + (length text + 1))) start
+rest_behind None None text at is = refl
+rest_behind (Some more) None text at is = absurd (cc)
+rest_behind None (Some bytes) text at is = absurd (cc)
+rest_behind (Some more) (Some bytes) text at is =
+    let whole : text ++ 10 ∷ more ≡ drop at bytes = cc in
+    let one : drop (length text + 1) (text ++ 10 ∷ more) ≡ more =
+    sym (drop-drop 1 (length text) (text ++ 10 ∷ more)) ∙ ap (drop 1) (drop_at text (10 ∷ more) (length text) refl) in
+    ap Some (sym (sym (drop-drop (length text + 1) at bytes) ∙ ap (drop (length text + 1)) (sym whole) ∙ one))
+
+pub rest_taken : (held : Bytes) (left new : Option Bytes) (number at : ℕ) (text : Bytes) (n : ℕ) → n ≡ length text
+    → ahead held left ≡ ahead text (ahead (10 ∷ []) new) → (v : Place) → place held number at ≡ v
+    → (start : Option Bytes) → ahead v.held left ≡ option_map (drop v.taken) start → new ≡ option_map (drop (at + (n + 1))) start
+unfolding place
+rest_taken held left new number at text n counts taken v is =
+    subst (λ (w : Place). (start : Option Bytes) → ahead w.held left ≡ option_map (drop w.taken) start → new ≡ option_map (drop (at + (n + 1))) start) is
+    (λ start old. rw counts (rest_behind new start text at (sym taken ∙ old)))
 
 -- a list with a length has an element
 pub nonempty_by_length : (bytes : Bytes) → not (length bytes == 0) ≡ is_nonempty bytes

@@ -4,41 +4,41 @@ use Rattle.std.specs.Prelude.{pos, neg_ℤ, codes}
 use Rattle.ply_head.specs.declared.fault.NumberFault.TheVariants.{Form, Digits, Range}
 use Rattle.ply_head.specs.Numbers.{number}
 
-row_1 : number (codes "-0.0378297") 6 ≡ Ok (neg_ℤ (pos 37830))
-row_1 = refl
+digits_behind_the_point : number (codes "-0.0378297") 6 ≡ Ok (neg_ℤ (pos 37830))
+digits_behind_the_point = refl
 
-row_2 : number (codes "1.5e-6") 6 ≡ Ok (pos 2)
-row_2 = refl
+tie_up : number (codes "1.5e-6") 6 ≡ Ok (pos 2)
+tie_up = refl
 
-row_3 : number (codes "-2.5E-06") 6 ≡ Ok (neg_ℤ (pos 3))
-row_3 = refl
+tie_of_a_negative : number (codes "-2.5E-06") 6 ≡ Ok (neg_ℤ (pos 3))
+tie_of_a_negative = refl
 
-row_4 : number (codes ".5") 0 ≡ Ok (pos 1)
-row_4 = refl
+no_digit_before : number (codes ".5") 0 ≡ Ok (pos 1)
+no_digit_before = refl
 
-row_5 : number (codes "4.") 1 ≡ Ok (pos 40)
-row_5 = refl
+no_digit_behind : number (codes "4.") 1 ≡ Ok (pos 40)
+no_digit_behind = refl
 
-row_6 : number (codes "0e9999") 9 ≡ Ok (pos 0)
-row_6 = refl
+zero_far_up : number (codes "0e9999") 9 ≡ Ok (pos 0)
+zero_far_up = refl
 
-row_7 : number (codes "2147483647.49") 0 ≡ Ok (pos 2147483647)
-row_7 = refl
+just_in_range : number (codes "2147483647.49") 0 ≡ Ok (pos 2147483647)
+just_in_range = refl
 
-row_8 : number (codes "2147483647.5") 0 ≡ Err Range
-row_8 = refl
+just_out_of_range : number (codes "2147483647.5") 0 ≡ Err Range
+just_out_of_range = refl
 
-row_9 : number (codes "nan") 0 ≡ Err Form
-row_9 = refl
+no_number : number (codes "nan") 0 ≡ Err Form
+no_number = refl
 
-row_10 : number (codes "1e") 0 ≡ Err Form
-row_10 = refl
+no_exponent : number (codes "1e") 0 ≡ Err Form
+no_exponent = refl
 
-row_11 : number (codes ".") 0 ≡ Err Form
-row_11 = refl
+point_alone : number (codes ".") 0 ≡ Err Form
+point_alone = refl
 
-row_12 : number (codes "1e00001") 0 ≡ Err Form
-row_12 = refl
+five_exponent_digits : number (codes "1e00001") 0 ≡ Err Form
+five_exponent_digits = refl
 
 -- exponents far away
 far_up : number (codes "1e9999") 0 ≡ Err Range
@@ -47,5 +47,16 @@ far_up = refl
 far_down : number (codes "1e-9999") 9 ≡ Ok (pos 0)
 far_down = refl
 
-too_long : number (codes "1234567890123456789012345678901") 0 ≡ Err Digits
-too_long = refl
+digits_31 : number (codes "1234567890123456789012345678901") 0 ≡ Err Digits
+digits_31 = refl
+
+digits_30 : number (codes "123456789012345678901234567890e-29") 0 ≡ Ok (pos 1)
+digits_30 = refl
+
+-- a zero in front isn't significant, before the point or behind it
+zeros_in_front : number (codes "0.0000000000000000000000000000000000000001e40") 0 ≡ Ok (pos 1)
+zeros_in_front = refl
+
+-- the form comes before the digits, and they before the range
+form_first : number (codes "1234567890123456789012345678901x") 0 ≡ Err Form
+form_first = refl

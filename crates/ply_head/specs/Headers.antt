@@ -12,6 +12,9 @@ use Rattle.ply_head.specs.declared.element.Used.{Used}
 use Rattle.ply_head.specs.declared.element.Used.TheVariants.{Vertex, Face, Other}
 use Rattle.ply_head.specs.declared.element.Property.{Property}
 use Rattle.ply_head.specs.declared.element.Element.{Element}
+pub use Rattle.ply_head.specs.declared.seen.Named.{Named}
+pub use Rattle.ply_head.specs.declared.seen.Declared.{Declared}
+pub use Rattle.ply_head.specs.declared.seen.Seen.{Seen}
 use Rattle.ply_head.specs.declared.fault.HeadFault.{HeadFault}
 use Rattle.ply_head.specs.declared.fault.HeadFault.TheVariants as fault
 use Rattle.ply_head.specs.Numbers.{is_digit, value}
@@ -61,20 +64,7 @@ is_float F32 = true
 is_float F64 = true
 is_float _ = false
 
--- What the lines so far declare: a property with its name, an element with its own, and the format.
-pub record Named : Type 0 where
-  pub name : Bytes
-  pub property : Property
-
-pub record Declared : Type 0 where
-  pub name : Bytes
-  pub count : ℕ
-  pub properties : List Named
-
-pub record Seen : Type 0 where
-  pub format : Option Format
-  pub elements : List Declared
-
+-- What no line has declared.
 abbrev pub nothing_seen : Seen
 nothing_seen = record { format = None; elements = [] }
 

@@ -1,5 +1,5 @@
 -- What a reader of a header leaves: what the header declares, and the input behind it.
-use Rattle.std.specs.Prelude.{◌≡◌, ◌≢◌, ℕ, ◌≤◌, List, ◌∷◌, ◌++◌, length, drop, All, Option, Some, None, Result, Ok, Err}
+use Rattle.std.specs.Prelude.{◌≡◌, ◌≢◌, ℕ, ◌≤◌, List, ◌∷◌, ◌++◌, length, drop, All, Option, None, Ok}
 use Rattle.std.specs.Option.{option_map, ForSome}
 use Rattle.tpz_base.specs.Texts.{Bytes}
 use Rattle.ply_head.specs.declared.element.Format.{Format}
@@ -9,7 +9,7 @@ use Rattle.ply_head.specs.declared.element.Property.{Property}
 use Rattle.ply_head.specs.declared.element.Element.{Element}
 use Rattle.ply_head.specs.declared.fault.HeadFault.{HeadFault}
 use Rattle.ply_head.specs.declared.fault.HeadFault.TheVariants.{InputFault, Memory}
-use Rattle.ply_head.specs.Headers.{Heading, heading}
+use Rattle.ply_head.specs.Headers.{heading}
 
 -- the format, the elements, and the bytes that were read past the header
 pub record HeadState : Type 0 where

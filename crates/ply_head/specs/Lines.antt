@@ -1,5 +1,5 @@
 -- The lines and words of a header.
-use Rattle.std.specs.Prelude.{ℕ, ◌+◌, ◌<◌, Bool, true, false, ◌||◌, List, [], ◌∷◌, length, ◌==◌, filter}
+use Rattle.std.specs.Prelude.{◌≡◌, ◌≤◌, ℕ, ◌+◌, ◌<◌, Bool, true, false, ◌||◌, List, [], ◌∷◌, length, ◌==◌, filter}
 use Rattle.std.specs.Option.{option_map}
 use Rattle.std.specs.declared.option.Option.{Option}
 use Rattle.std.specs.List.{slice_split}
@@ -65,3 +65,10 @@ is_nonempty (b ∷ bs) = true
 -- the parts between blanks that hold something
 abbrev pub words : Bytes → List Bytes
 words text = filter is_nonempty (slice_split is_blank text)
+
+-- What a line that is ended makes of the place: the next line's number, and where the line ends.
+pub record Passes (old new : Place) (line : Line) : Type 0 where
+  pub number : new.number ≡ old.number + 1
+  pub end : line.end ≡ new.taken
+  pub longer : old.taken < new.taken
+  pub within : new.taken ≤ 1048576

@@ -1,15 +1,19 @@
 // Why a header or a number is refused.
+ghost use Rattle.std.specs.Prelude.{◌≡◌};
+ghost use Rattle.ply_head.specs.declared.fault.HeadFault.TheVariants.{Memory};
+
+use std::alloc::AllocError;
 
 /// Why a header isn't read. Each refusal has the number of its line, from 1, and is the first in the order of lines.
 #[derive(Clone, Copy, Debug, PartialEq, Eq)]
 pub enum HeadFault {
     /// The first line isn't `ply`.
     NotPly { line: u64 },
-    /// The line where the format is due names none that is known.
+    /// The line where the format is due, the first behind `ply` that is no comment and not blank, names none that is known.
     Format { line: u64 },
-    /// The line isn't ended, has no form that is known, or stands where it may not.
+    /// The line has no line feed, or no form that is known, or stands where it may not, or its count isn't digits.
     Line { line: u64 },
-    /// A type isn't known, or may not stand there.
+    /// A type isn't known, or is a float where a whole type has to stand.
     TypeName { line: u64 },
     /// At the end of the header: no element `vertex` with the scalars x, y and z.
     NoVertex { line: u64 },
@@ -17,12 +21,20 @@ pub enum HeadFault {
     NoFace { line: u64 },
     /// At the end of the header: the format is binary, and x, y or z is a float.
     FloatBinary { line: u64 },
-    /// More elements, properties, rows or bytes than are taken.
+    /// The 65th element, the 257th property, more than 2,147,483,648 rows, or a line that ends past 1,048,576 bytes.
     TooMany { line: u64 },
     /// A read of the source failed.
     InputFault,
     /// Memory ran out.
     Memory,
+}
+
+impl From<AllocError> for HeadFault {
+    ghost from_gives = { λ _ e. e ≡ Memory };
+
+    fn from(_: AllocError) -> Self {
+        HeadFault::Memory
+    }
 }
 
 /// Why a text isn't a number that can be taken.

@@ -5,8 +5,13 @@ ghost use Rattle.tpz_io.specs.Causes.{Rose};
 ghost use Rattle.tpz_io.specs.Told.{ahead};
 ghost use Rattle.ply_head.specs.declared.fault.HeadFault.{HeadFault};
 ghost use Rattle.ply_head.specs.Headers.{default_digits, heading};
+ghost use Rattle.ply_head.specs.Steps.{full_fault};
 ghost use Rattle.ply_head.specs.Heads.{IsHeadOf, IsLaidOut, IsRefusal, IsSmall};
 
+use crate::checks::has_float_coordinate;
+use crate::line::{LineFault, LineReader};
+use crate::seen::Seen;
+use crate::step::Step;
 use crate::{Element, Format, HeadFault};
 use std::alloc::Global;
 use std::marker::Model;
@@ -57,6 +62,17 @@ impl Head {
         self.elements.as_slice()
     }
 
+    /// The digits of a number where none are asked for: 6 where a used coordinate is a float, and else 0.
+    pub fn default_digits(&self) -> u8
+        ensures { result ≡ default_digits self.now.elements }
+    {
+        if has_float_coordinate(self.elements()) {
+            6
+        } else {
+            0
+        }
+    }
+
     /// The parts, for a reader of the rows.
     pub fn into_parts(self) -> HeadParts
         ensures format { result.format ≡ self.format }
@@ -81,5 +97,37 @@ pub fn read_head<I: Source>(alloc: Global, src: &mut I) -> Result<Head, HeadFaul
     ensures input { IsErrOf result HeadFault.InputFault → Rose (I.faults src.old) (I.faults src.new) }
     ensures later { I.faults src.old ≤ I.faults src.new }
 {
-    Err(HeadFault::Memory)
+    let mut lines = LineReader::new(alloc)?;
+    let mut seen = Seen::new(alloc);
+    'lines: loop {
+        let number = lines.number();
+        let line = match lines.next(alloc, src) {
+            Ok(line) => line,
+            Err(LineFault::Full) => return Err(full_fault(number)),
+            Err(LineFault::Input) => return Err(HeadFault::InputFault),
+            Err(LineFault::Memory) => return Err(HeadFault::Memory),
+        };
+        match seen.take(alloc, &line)? {
+            Step::More => {}
+            Step::Done(elements) => {
+                return Ok(Head {
+                    format: seen.format.unwrap_or(Format::Ascii),
+                    elements,
+                    reader: lines.into_reader(),
+                });
+            }
+            Step::Refused(fault) => return Err(fault),
+        }
+    }
+}
+
+// Why a line that ends past the limit is refused: the first isn't `ply`.
+fn full_fault(number: u64) -> HeadFault
+    ensures { result ≡ full_fault number }
+{
+    if number == 1 {
+        HeadFault::NotPly { line: number }
+    } else {
+        HeadFault::TooMany { line: number }
+    }
 }

@@ -1,12 +1,20 @@
-//! The header of a PLY input, and the numbers of its text.
+//! The header of a PLY input: what it declares, or why it is refused. And the decimal numbers of the text.
 #![tactic(auto)]
 
+mod checks;
 mod element;
 mod fault;
+mod form;
 mod head;
 mod line;
+mod names;
 mod number;
+mod seen;
+mod step;
+#[cfg(test)]
+mod tests;
 mod text;
+mod used;
 mod words;
 
 pub use element::{Element, Format, Kind, Property, Role, Used};

@@ -1,0 +1,14 @@
+use Rattle.ply_head.specs.Headers.{is_index_list}
+use Rattle.ply_head.proofs.Places.{passed_more, first_found, none_found}
+use Rattle.ply_head.proofs.used.first_index_list.Goals as goal
+
+pub loop-i-preserved : goal.loop-i-preserved
+loop-i-preserved c =
+    passed_more is_index_list c.args.named.now c.loop-i.i c.index-named-i.result c.index-named-i.is c.loop-i-test.true (cc) c.loop-i.invariant
+
+pub returns-then-is_index_list : goal.returns-then-is_index_list
+returns-then-is_index_list c =
+    first_found is_index_list c.args.named.now c.loop-i.i c.index-named-i.result c.index-named-i.is c.loop-i-test.true (cc) c.loop-i.invariant
+
+pub returns : goal.returns
+returns c = none_found is_index_list c.args.named.now c.loop-i.i c.loop-i-test.false c.loop-i.invariant
