@@ -9,7 +9,6 @@ use Rattle.ply_head.specs.declared.fault.HeadFault.TheVariants as fault
 use Rattle.std.specs.List.{repeat}
 use Rattle.ply_head.specs.declared.text.Line.{Line}
 use Rattle.tpz_base.specs.Texts.{Bytes}
-
 use Rattle.ply_head.specs.Headers.{Seen, nothing_seen, fault_in, heading}
 
 joined : List Bytes → Bytes
