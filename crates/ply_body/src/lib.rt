@@ -4,9 +4,12 @@
 mod faces;
 mod fault;
 mod frame;
+mod item;
 mod item_reader;
+mod meaning;
 mod points;
 mod spots;
+mod whole_number;
 
 pub use faces::Faces;
 pub use fault::BodyFault;
