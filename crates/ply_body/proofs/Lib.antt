@@ -1,1 +1,3 @@
 pub mod MeaningLemmas
+pub mod ItemLemmas
+pub mod TokenLemmas

@@ -3,6 +3,7 @@ ghost use Rattle.std.specs.Prelude.{◌≡◌, ◌≤◌, ◌<◌, [], Ok, IfOk,
 ghost use Rattle.std.specs.Option.{ForSome, option_map};
 ghost use Rattle.tpz_io.specs.Causes.{Rose};
 ghost use Rattle.ply_body.specs.declared.fault.Flaw.{Flaw};
+ghost use Rattle.ply_body.specs.declared.item_reader.ItemFault.TheVariants.{Input};
 ghost use Rattle.ply_body.specs.Items.{MOST_BYTES, coordinate_of, count_of, index_of, item_as, items_told, skipped, Refuses, Takes};
 
 use crate::fault::Flaw;
@@ -18,6 +19,14 @@ pub enum ItemFault {
     Flaw(Flaw),
     /// A read of the source failed.
     Input,
+}
+
+impl From<Failed> for ItemFault {
+    ghost from_gives = { λ _ e. e ≡ Input };
+
+    fn from(_: Failed) -> Self {
+        ItemFault::Input
+    }
 }
 
 // Stands for what isn't written yet.
@@ -51,7 +60,12 @@ impl ItemReader {
     }
 
     /// Takes a coordinate, scaled by so many digits.
-    pub fn coordinate<S: Source>(&mut self, source: &mut S, kind: Kind, digits: u8) -> Result<i32, ItemFault>
+    pub fn coordinate<S: Source>(
+        &mut self,
+        source: &mut S,
+        kind: Kind,
+        digits: u8,
+    ) -> Result<i32, ItemFault>
         requires { digits ≤ 9 }
         ensures taken { IfOk result (λ z. Takes (item_as (coordinate_of digits) kind) (items_told self.old (S.left source.old)) z (items_told self.new (S.left source.new))) }
         ensures refused { (flaw : Flaw) → result ≡ Err (ItemFault.Flaw flaw) → Refuses (item_as (coordinate_of digits) kind) (items_told self.old (S.left source.old)) flaw }
@@ -73,7 +87,12 @@ impl ItemReader {
     }
 
     /// Takes an index of one of so many vertices.
-    pub fn index<S: Source>(&mut self, source: &mut S, kind: Kind, vertices: u64) -> Result<u32, ItemFault>
+    pub fn index<S: Source>(
+        &mut self,
+        source: &mut S,
+        kind: Kind,
+        vertices: u64,
+    ) -> Result<u32, ItemFault>
         requires { vertices ≤ 2147483648 }
         ensures taken { IfOk result (λ i. Takes (item_as (index_of vertices) kind) (items_told self.old (S.left source.old)) i (items_told self.new (S.left source.new))) }
         ensures fits { IfOk result (λ i. i < vertices) }
@@ -85,7 +104,12 @@ impl ItemReader {
     }
 
     /// Takes so many items without a look at what they mean.
-    pub fn skip<S: Source>(&mut self, source: &mut S, kind: Kind, count: u64) -> Result<(), ItemFault>
+    pub fn skip<S: Source>(
+        &mut self,
+        source: &mut S,
+        kind: Kind,
+        count: u64,
+    ) -> Result<(), ItemFault>
         ensures taken { OnOk result (option_map (skipped kind count) (items_told self.old (S.left source.old)) ≡ option_map Ok (items_told self.new (S.left source.new))) }
         ensures refused { (flaw : Flaw) → result ≡ Err (ItemFault.Flaw flaw) → Refuses (skipped kind count) (items_told self.old (S.left source.old)) flaw }
         ensures input { IsErrOf result ItemFault.Input → Rose (S.faults source.old) (S.faults source.new) }

@@ -9,6 +9,7 @@ mod item_reader;
 mod meaning;
 mod points;
 mod spots;
+mod token;
 mod whole_number;
 
 pub use faces::Faces;

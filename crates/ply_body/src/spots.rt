@@ -78,7 +78,12 @@ impl PointBuffer {
     }
 
     /// The point with this number, relative to `low`.
-    pub fn read_point<B: Blob>(&mut self, points: &mut B, frame: &Frame, number: u32) -> Result<Point, PointFault>
+    pub fn read_point<B: Blob>(
+        &mut self,
+        points: &mut B,
+        frame: &Frame,
+        number: u32,
+    ) -> Result<Point, PointFault>
         requires number { number < frame.now.vertices }
         requires small { IsSmallFrame frame.now }
         requires points { ForSome (B.held points.old) (HoldsPoints frame.now) }
