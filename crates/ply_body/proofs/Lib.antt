@@ -1,3 +1,4 @@
 pub mod MeaningLemmas
 pub mod ItemLemmas
 pub mod TokenLemmas
+pub mod FieldLemmas

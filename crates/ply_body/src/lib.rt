@@ -3,6 +3,7 @@
 
 mod faces;
 mod fault;
+mod field;
 mod frame;
 mod item;
 mod item_reader;
