@@ -14,7 +14,7 @@ use tpz_io::{Blob, Failed};
 
 // Stands for what isn't written yet.
 #[derive(Clone, Copy, Debug, PartialEq, Eq)]
-enum Never {}
+pub enum Never {}
 
 /// A row of the vertices, in whole scaled units: each at most 2,147,483,647 in absolute value.
 #[derive(Clone, Copy)]
@@ -35,7 +35,7 @@ pub enum PointFault {
 #[derive(Drop)]
 pub struct PointBuffer {
     bytes: Vec<u8>,
-    never: Never,
+    pub never: Never,
 }
 
 impl Model for PointBuffer {
