@@ -2,15 +2,24 @@
 ghost use Rattle.std.specs.Prelude.{◌≡◌, ◌≤◌, ◌<◌, [], Ok, IfOk, OnOk, IsErrOf, Err};
 ghost use Rattle.std.specs.Option.{ForSome, option_map};
 ghost use Rattle.tpz_io.specs.Causes.{Rose};
+ghost use Rattle.tpz_io.specs.Told.{ahead};
 ghost use Rattle.ply_body.specs.declared.fault.Flaw.{Flaw};
-ghost use Rattle.ply_body.specs.declared.item_reader.ItemFault.TheVariants.{Input};
-ghost use Rattle.ply_body.specs.Items.{MOST_BYTES, coordinate_of, count_of, index_of, item_as, items_told, skipped, Refuses, Takes};
+ghost use Rattle.ply_body.specs.declared.item_reader.ItemFault.TheVariants as item_fault;
+ghost use Rattle.ply_body.specs.Items.{MOST_BYTES, coordinate_of, count_of, index_of, item, item_as, items_told, skipped, Refuses, Takes};
+ghost use Rattle.ply_body.specs.Tokens.{items_ahead};
 
 use crate::fault::Flaw;
+use crate::field::next_field;
+use crate::item::Item;
+use crate::meaning::{coordinate_of, count_of, index_of};
+use crate::token::next_token;
 use ply_head::{Format, Kind};
 use std::alloc::{AllocError, Global};
 use std::marker::Model;
 use tpz_io::{Failed, Reader, Source};
+
+// How many bytes behind the header are looked at.
+const MOST_BYTES: u64 = 1 << 40;
 
 /// Why an item isn't taken.
 #[derive(Clone, Copy, Debug, PartialEq, Eq)]
@@ -22,16 +31,20 @@ pub enum ItemFault {
 }
 
 impl From<Failed> for ItemFault {
-    ghost from_gives = { λ _ e. e ≡ Input };
+    ghost from_gives = { λ _ e. e ≡ item_fault.Input };
 
     fn from(_: Failed) -> Self {
         ItemFault::Input
     }
 }
 
-// Stands for what isn't written yet.
-#[derive(Clone, Copy, Debug, PartialEq, Eq)]
-pub enum Never {}
+impl From<Flaw> for ItemFault {
+    ghost from_gives = { λ flaw e. e ≡ item_fault.Flaw flaw };
+
+    fn from(flaw: Flaw) -> Self {
+        ItemFault::Flaw(flaw)
+    }
+}
 
 /// Takes items from a source. It looks at no more than 2^40 bytes behind the header. Contracts see the format, how many
 /// bytes may still be looked at, and the bytes that were read and not yet taken.
@@ -40,7 +53,6 @@ pub struct ItemReader {
     reader: Reader,
     format: Format,
     room: u64,
-    pub never: Never,
 }
 
 impl Model for ItemReader {
@@ -56,7 +68,11 @@ impl ItemReader {
     pub fn new(alloc: Global, format: Format, reader: Reader) -> Result<Self, AllocError>
         ensures { IfOk result (λ items. items ≡ record { format = format; room = MOST_BYTES; held = reader }) }
     {
-        Err(AllocError)
+        Ok(ItemReader {
+            reader,
+            format,
+            room: MOST_BYTES,
+        })
     }
 
     /// Takes a coordinate, scaled by so many digits.
@@ -72,7 +88,8 @@ impl ItemReader {
         ensures input { IsErrOf result ItemFault.Input → Rose (S.faults source.old) (S.faults source.new) }
         ensures later { S.faults source.old ≤ S.faults source.new }
     {
-        match self.never {}
+        let item = self.next_item(source, kind)?;
+        Ok(coordinate_of(&item, digits)?)
     }
 
     /// Takes the count of a list.
@@ -83,7 +100,8 @@ impl ItemReader {
         ensures input { IsErrOf result ItemFault.Input → Rose (S.faults source.old) (S.faults source.new) }
         ensures later { S.faults source.old ≤ S.faults source.new }
     {
-        match self.never {}
+        let item = self.next_item(source, kind)?;
+        Ok(count_of(&item)?)
     }
 
     /// Takes an index of one of so many vertices.
@@ -100,7 +118,8 @@ impl ItemReader {
         ensures input { IsErrOf result ItemFault.Input → Rose (S.faults source.old) (S.faults source.new) }
         ensures later { S.faults source.old ≤ S.faults source.new }
     {
-        match self.never {}
+        let item = self.next_item(source, kind)?;
+        Ok(index_of(&item, vertices)?)
     }
 
     /// Takes so many items without a look at what they mean.
@@ -115,6 +134,38 @@ impl ItemReader {
         ensures input { IsErrOf result ItemFault.Input → Rose (S.faults source.old) (S.faults source.new) }
         ensures later { S.faults source.old ≤ S.faults source.new }
     {
-        match self.never {}
+        'items: for _ in 0..count {
+            self.next_item(source, kind)?;
+        }
+        Ok(())
     }
+    // Takes the next item. A token of more than 64 bytes is refused.
+    fn next_item<S: Source>(&mut self, source: &mut S, kind: Kind) -> Result<Item, ItemFault>
+        ensures taken { IfOk result (λ i. Takes (item kind) (items_told self.old (S.left source.old)) i (items_told self.new (S.left source.new))) }
+        ensures refused { (flaw : Flaw) → result ≡ Err (ItemFault.Flaw flaw) → Refuses (item kind) (items_told self.old (S.left source.old)) flaw }
+        ensures input { IsErrOf result ItemFault.Input → Rose (S.faults source.old) (S.faults source.new) }
+        ensures later { S.faults source.old ≤ S.faults source.new }
+    {
+        take_item(&mut self.reader, source, &mut self.room, self.format, kind)
+    }
+}
+
+// The same over the parts of a reader.
+fn take_item<S: Source>(
+    reader: &mut Reader,
+    source: &mut S,
+    room: &mut u64,
+    format: Format,
+    kind: Kind,
+) -> Result<Item, ItemFault>
+    ensures taken { IfOk result (λ i. Takes (item kind) (items_ahead format room.old (ahead reader.old (S.left source.old))) i
+        (items_ahead format room.new (ahead reader.new (S.left source.new)))) }
+    ensures refused { (flaw : Flaw) → result ≡ Err (ItemFault.Flaw flaw) → Refuses (item kind) (items_ahead format room.old (ahead reader.old (S.left source.old))) flaw }
+    ensures input { IsErrOf result ItemFault.Input → Rose (S.faults source.old) (S.faults source.new) }
+    ensures later { S.faults source.old ≤ S.faults source.new }
+{
+    if format == Format::Ascii {
+        return Ok(Item::Token(next_token(reader, source, room)?));
+    }
+    Ok(Item::Field(next_field(reader, source, room, format, kind)?))
 }
