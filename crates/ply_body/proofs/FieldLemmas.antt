@@ -12,7 +12,6 @@ use Rattle.ply_head.specs.declared.element.Format.TheVariants.{Ascii, Little, Bi
 use Rattle.ply_head.specs.declared.element.Kind.{Kind}
 use Rattle.ply_body.specs.declared.fault.Flaw.{Flaw}
 use Rattle.ply_body.specs.declared.fault.Flaw.TheVariants.{Short, TooLong}
-use Rattle.ply_body.specs.declared.item.Item.{Item}
 use Rattle.ply_body.specs.declared.item.Item.TheVariants.{Field}
 use Rattle.ply_body.specs.Items.{Items, Fields, field_value, size_of, is_full, lack_of, items_of, item, Refuses, Takes}
 use Rattle.ply_body.specs.Tokens.{items_ahead}

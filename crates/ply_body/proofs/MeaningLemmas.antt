@@ -1,5 +1,5 @@
 -- How great a coordinate is.
-use Rattle.std.proofs.Common.{◌≡◌, ℕ, zero, suc, ◌≤◌, Bool, true, false, not, ◌&&◌, cond, ◌++◌, length, refl, subst, arith, ℤ, pos, negsuc, FitsSigned, w32}
+use Rattle.std.proofs.Common.{◌≡◌, ℕ, zero, suc, ◌≤◌, Bool, true, false, not, ◌&&◌, cond, ◌++◌, length, refl, subst, arith, ℤ, FitsSigned, w32}
 use Rattle.std.proofs.lemmas.Int.{ints}
 use Rattle.std.proofs.lemmas.Bool.Decides.{nat_tests}
 use Rattle.std.specs.Prelude.{nat_lt, Option, Result, Ok, Err}

@@ -16,9 +16,8 @@ use Rattle.ply_head.specs.declared.element.Kind.{Kind}
 use Rattle.ply_head.specs.declared.element.Format.TheVariants.{Ascii}
 use Rattle.ply_body.specs.declared.fault.Flaw.{Flaw}
 use Rattle.ply_body.specs.declared.fault.Flaw.TheVariants.{Short, Number, TooLong}
-use Rattle.ply_body.specs.declared.item.Item.{Item}
 use Rattle.ply_body.specs.declared.item.Item.TheVariants.{Token}
-use Rattle.ply_body.specs.Items.{Content, Items, Tokens, is_gap, is_full, lack_of, without_last, complete_parts, tokens, items_of, item, unless, Refuses, Takes}
+use Rattle.ply_body.specs.Items.{Items, Tokens, is_gap, is_full, without_last, complete_parts, items_of, item, unless, Refuses, Takes}
 use Rattle.ply_body.specs.Tokens.{IsLong, items_ahead, items_behind}
 use Rattle.ply_body.proofs.ItemLemmas.{refused_here}
 

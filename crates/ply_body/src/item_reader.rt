@@ -64,8 +64,8 @@ impl Model for ItemReader {
 }
 
 impl ItemReader {
-    /// Reads on behind a header. Takes all its memory at once.
-    pub fn new(alloc: Global, format: Format, reader: Reader) -> Result<Self, AllocError>
+    /// Reads on behind a header. Neither this nor a call takes memory: a token is kept where it is returned.
+    pub fn new(_alloc: Global, format: Format, reader: Reader) -> Result<Self, AllocError>
         ensures { IfOk result (λ items. items ≡ record { format = format; room = MOST_BYTES; held = reader }) }
     {
         Ok(ItemReader {

@@ -7,6 +7,8 @@ mod field;
 mod frame;
 mod item;
 mod item_reader;
+#[cfg(test)]
+mod item_tests;
 mod meaning;
 mod points;
 mod spots;

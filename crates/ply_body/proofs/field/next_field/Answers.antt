@@ -1,11 +1,8 @@
-use Rattle.std.proofs.Common.{◌≡◌, length, ℤ, w64, to_z, of_z, sym, ◌∙◌, Err, rules, arith, subst}
+use Rattle.std.proofs.Common.{◌≡◌, length, w64, to_z, of_z, Err, arith}
 use Rattle.std.proofs.lemmas.Grind.{common_steps}
 use Rattle.std.proofs.lemmas.Int.{ints}
 use Rattle.std.proofs.lemmas.Result.{err_from_is_err_and}
-use Rattle.ply_body.specs.declared.item.Item.TheVariants.{Field}
-use Rattle.ply_body.specs.Items.{item, size_of, Takes}
-use Rattle.ply_body.specs.Tokens.{items_ahead}
-use Rattle.ply_body.specs.declared.item_reader.ItemFault.{ItemFault}
+use Rattle.ply_body.specs.Items.{size_of}
 use Rattle.ply_body.specs.declared.item_reader.ItemFault.TheVariants as item_fault
 use Rattle.ply_body.proofs.FieldLemmas.{field_taken, field_refused}
 use Rattle.ply_body.proofs.field.next_field.Goals as goal

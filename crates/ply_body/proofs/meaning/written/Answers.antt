@@ -1,4 +1,4 @@
-use Rattle.std.proofs.Common.{sym, ◌∙◌, FitsSigned, w32, arith, rules}
+use Rattle.std.proofs.Common.{sym, ◌∙◌, FitsSigned, w32, arith}
 use Rattle.std.proofs.lemmas.Int.{ints}
 use Rattle.ply_body.proofs.MeaningLemmas.{number_fits}
 use Rattle.ply_body.proofs.meaning.written.Goals as goal
