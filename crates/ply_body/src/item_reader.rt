@@ -19,7 +19,7 @@ use std::marker::Model;
 use tpz_io::{Failed, Reader, Source};
 
 // How many bytes behind the header are looked at.
-const MOST_BYTES: u64 = 1 << 40;
+const ROOM: u64 = 1 << 40;
 
 /// Why an item isn't taken.
 #[derive(Clone, Copy, Debug, PartialEq, Eq)]
@@ -71,7 +71,7 @@ impl ItemReader {
         Ok(ItemReader {
             reader,
             format,
-            room: MOST_BYTES,
+            room: ROOM,
         })
     }
 
@@ -139,6 +139,7 @@ impl ItemReader {
         }
         Ok(())
     }
+
     // Takes the next item. A token of more than 64 bytes is refused.
     fn next_item<S: Source>(&mut self, source: &mut S, kind: Kind) -> Result<Item, ItemFault>
         ensures taken { IfOk result (λ i. Takes (item kind) (items_told self.old (S.left source.old)) i (items_told self.new (S.left source.new))) }
