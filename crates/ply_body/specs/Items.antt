@@ -13,6 +13,8 @@ use Rattle.ply_head.specs.declared.fault.NumberFault.{NumberFault}
 use Rattle.ply_head.specs.declared.fault.NumberFault.TheVariants as number_fault
 use Rattle.ply_head.specs.Numbers.{LIMIT, number, signed, value, is_negative, without_sign, are_digits}
 use Rattle.ply_head.specs.Lines.{is_nonempty}
+use Rattle.ply_body.specs.declared.item.Item.{Item}
+use Rattle.ply_body.specs.declared.item.Item.TheVariants.{Token, Field}
 use Rattle.ply_body.specs.declared.fault.Flaw.{Flaw}
 use Rattle.ply_body.specs.declared.fault.Flaw.TheVariants.{Short, Number, Range, BadIndex, TooLong}
 
@@ -24,11 +26,6 @@ abbrev pub ◌>>=◌ : {A B E : Type 0} → Result A E → (A → Result B E) �
 -- x, but a refusal where b holds
 abbrev pub unless : {X E : Type 0} → Bool → E → X → Result X E
 unless b e x = if b then Err e else Ok x
-
--- An item is a token, or the number that a field holds.
-pub data Item : Type 0 where
-  Token : Bytes → Item
-  Field : ℤ → Item
 
 -- Tokens, or the bytes of fields.
 pub data Content : Type 0 where
@@ -51,11 +48,12 @@ size_of U32 = 4
 size_of F32 = 4
 size_of F64 = 8
 
+-- the bits of a float are read as two's complement too, so that the number in each field fits an i64
 abbrev pub is_signed : Kind → Bool
-is_signed I8 = true
-is_signed I16 = true
-is_signed I32 = true
-is_signed _ = false
+is_signed U8 = false
+is_signed U16 = false
+is_signed U32 = false
+is_signed _ = true
 
 abbrev pub unsigned_value : Format → ℕ → Bytes → ℕ
 unsigned_value Big size bytes = big_number size bytes

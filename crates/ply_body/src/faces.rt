@@ -69,7 +69,11 @@ impl Faces {
     /// Reads to the end of the used vertex element, and writes each point to the blob. It is the first call.
     ///
     /// An extent is tested when the last row of that element is read.
-    pub fn load_points<I: Source, B: Blob>(&mut self, src: &mut I, points: &mut B) -> Result<Frame, BodyFault>
+    pub fn load_points<I: Source, B: Blob>(
+        &mut self,
+        src: &mut I,
+        points: &mut B,
+    ) -> Result<Frame, BodyFault>
         requires { IsOpened self.old }
         // The rows that were read, the frame, and the triangles that are still to come:
         ensures rows { IfOk result (λ frame. (rows : List Row) × IsFrameOf frame rows
@@ -93,7 +97,12 @@ impl Faces {
     /// The next triangle that is whole, relative to `low`. None comes where all elements were read.
     ///
     /// The frame is the one that `load_points` gave, and the blob holds its points.
-    pub fn next_tri<I: Source, B: Blob>(&mut self, src: &mut I, frame: &Frame, points: &mut B) -> Result<Option<Tri>, BodyFault>
+    pub fn next_tri<I: Source, B: Blob>(
+        &mut self,
+        src: &mut I,
+        frame: &Frame,
+        points: &mut B,
+    ) -> Result<Option<Tri>, BodyFault>
         requires frame { (self.old.frame ≡ Some frame.now) ⊎ (self.old.refusal ≢ None) }
         requires points { ForSome (B.held points.old) (HoldsPoints frame.now) }
         ensures tri { (t : Tri) → result ≡ Ok (Some t) → (lost : List Face) × (face : Face)

@@ -2,14 +2,24 @@
 ghost use Rattle.std.specs.Prelude.{◌≡◌, ◌≤◌, ◌<◌, [], Ok, IfOk, OnOk, IsErrOf, Err};
 ghost use Rattle.std.specs.Option.{ForSome, option_map};
 ghost use Rattle.tpz_io.specs.Causes.{Rose};
+ghost use Rattle.tpz_io.specs.Told.{ahead};
 ghost use Rattle.ply_body.specs.declared.fault.Flaw.{Flaw};
-ghost use Rattle.ply_body.specs.Items.{MOST_BYTES, coordinate_of, count_of, index_of, item_as, items_told, skipped, Refuses, Takes};
+ghost use Rattle.ply_body.specs.declared.item_reader.ItemFault.TheVariants as item_fault;
+ghost use Rattle.ply_body.specs.Items.{MOST_BYTES, coordinate_of, count_of, index_of, item, item_as, items_told, skipped, Refuses, Takes};
+ghost use Rattle.ply_body.specs.Tokens.{items_ahead};
 
 use crate::fault::Flaw;
+use crate::field::next_field;
+use crate::item::Item;
+use crate::meaning::{coordinate_of, count_of, index_of};
+use crate::token::next_token;
 use ply_head::{Format, Kind};
 use std::alloc::{AllocError, Global};
 use std::marker::Model;
 use tpz_io::{Failed, Reader, Source};
+
+// How many bytes behind the header are looked at.
+const ROOM: u64 = 1 << 40;
 
 /// Why an item isn't taken.
 #[derive(Clone, Copy, Debug, PartialEq, Eq)]
@@ -20,9 +30,21 @@ pub enum ItemFault {
     Input,
 }
 
-// Stands for what isn't written yet.
-#[derive(Clone, Copy, Debug, PartialEq, Eq)]
-pub enum Never {}
+impl From<Failed> for ItemFault {
+    ghost from_gives = { λ _ e. e ≡ item_fault.Input };
+
+    fn from(_: Failed) -> Self {
+        ItemFault::Input
+    }
+}
+
+impl From<Flaw> for ItemFault {
+    ghost from_gives = { λ flaw e. e ≡ item_fault.Flaw flaw };
+
+    fn from(flaw: Flaw) -> Self {
+        ItemFault::Flaw(flaw)
+    }
+}
 
 /// Takes items from a source. It looks at no more than 2^40 bytes behind the header. Contracts see the format, how many
 /// bytes may still be looked at, and the bytes that were read and not yet taken.
@@ -31,7 +53,6 @@ pub struct ItemReader {
     reader: Reader,
     format: Format,
     room: u64,
-    pub never: Never,
 }
 
 impl Model for ItemReader {
@@ -43,22 +64,32 @@ impl Model for ItemReader {
 }
 
 impl ItemReader {
-    /// Reads on behind a header. Takes all its memory at once.
-    pub fn new(alloc: Global, format: Format, reader: Reader) -> Result<Self, AllocError>
+    /// Reads on behind a header. Neither this nor a call takes memory: a token is kept where it is returned.
+    pub fn new(_alloc: Global, format: Format, reader: Reader) -> Result<Self, AllocError>
         ensures { IfOk result (λ items. items ≡ record { format = format; room = MOST_BYTES; held = reader }) }
     {
-        Err(AllocError)
+        Ok(ItemReader {
+            reader,
+            format,
+            room: ROOM,
+        })
     }
 
     /// Takes a coordinate, scaled by so many digits.
-    pub fn coordinate<S: Source>(&mut self, source: &mut S, kind: Kind, digits: u8) -> Result<i32, ItemFault>
+    pub fn coordinate<S: Source>(
+        &mut self,
+        source: &mut S,
+        kind: Kind,
+        digits: u8,
+    ) -> Result<i32, ItemFault>
         requires { digits ≤ 9 }
         ensures taken { IfOk result (λ z. Takes (item_as (coordinate_of digits) kind) (items_told self.old (S.left source.old)) z (items_told self.new (S.left source.new))) }
         ensures refused { (flaw : Flaw) → result ≡ Err (ItemFault.Flaw flaw) → Refuses (item_as (coordinate_of digits) kind) (items_told self.old (S.left source.old)) flaw }
         ensures input { IsErrOf result ItemFault.Input → Rose (S.faults source.old) (S.faults source.new) }
         ensures later { S.faults source.old ≤ S.faults source.new }
     {
-        match self.never {}
+        let item = self.next_item(source, kind)?;
+        Ok(coordinate_of(&item, digits)?)
     }
 
     /// Takes the count of a list.
@@ -69,11 +100,17 @@ impl ItemReader {
         ensures input { IsErrOf result ItemFault.Input → Rose (S.faults source.old) (S.faults source.new) }
         ensures later { S.faults source.old ≤ S.faults source.new }
     {
-        match self.never {}
+        let item = self.next_item(source, kind)?;
+        Ok(count_of(&item)?)
     }
 
     /// Takes an index of one of so many vertices.
-    pub fn index<S: Source>(&mut self, source: &mut S, kind: Kind, vertices: u64) -> Result<u32, ItemFault>
+    pub fn index<S: Source>(
+        &mut self,
+        source: &mut S,
+        kind: Kind,
+        vertices: u64,
+    ) -> Result<u32, ItemFault>
         requires { vertices ≤ 2147483648 }
         ensures taken { IfOk result (λ i. Takes (item_as (index_of vertices) kind) (items_told self.old (S.left source.old)) i (items_told self.new (S.left source.new))) }
         ensures fits { IfOk result (λ i. i < vertices) }
@@ -81,16 +118,55 @@ impl ItemReader {
         ensures input { IsErrOf result ItemFault.Input → Rose (S.faults source.old) (S.faults source.new) }
         ensures later { S.faults source.old ≤ S.faults source.new }
     {
-        match self.never {}
+        let item = self.next_item(source, kind)?;
+        Ok(index_of(&item, vertices)?)
     }
 
     /// Takes so many items without a look at what they mean.
-    pub fn skip<S: Source>(&mut self, source: &mut S, kind: Kind, count: u64) -> Result<(), ItemFault>
+    pub fn skip<S: Source>(
+        &mut self,
+        source: &mut S,
+        kind: Kind,
+        count: u64,
+    ) -> Result<(), ItemFault>
         ensures taken { OnOk result (option_map (skipped kind count) (items_told self.old (S.left source.old)) ≡ option_map Ok (items_told self.new (S.left source.new))) }
         ensures refused { (flaw : Flaw) → result ≡ Err (ItemFault.Flaw flaw) → Refuses (skipped kind count) (items_told self.old (S.left source.old)) flaw }
         ensures input { IsErrOf result ItemFault.Input → Rose (S.faults source.old) (S.faults source.new) }
         ensures later { S.faults source.old ≤ S.faults source.new }
     {
-        match self.never {}
+        'items: for _ in 0..count {
+            self.next_item(source, kind)?;
+        }
+        Ok(())
     }
+
+    // Takes the next item. A token of more than 64 bytes is refused.
+    fn next_item<S: Source>(&mut self, source: &mut S, kind: Kind) -> Result<Item, ItemFault>
+        ensures taken { IfOk result (λ i. Takes (item kind) (items_told self.old (S.left source.old)) i (items_told self.new (S.left source.new))) }
+        ensures refused { (flaw : Flaw) → result ≡ Err (ItemFault.Flaw flaw) → Refuses (item kind) (items_told self.old (S.left source.old)) flaw }
+        ensures input { IsErrOf result ItemFault.Input → Rose (S.faults source.old) (S.faults source.new) }
+        ensures later { S.faults source.old ≤ S.faults source.new }
+    {
+        take_item(&mut self.reader, source, &mut self.room, self.format, kind)
+    }
+}
+
+// The same over the parts of a reader.
+fn take_item<S: Source>(
+    reader: &mut Reader,
+    source: &mut S,
+    room: &mut u64,
+    format: Format,
+    kind: Kind,
+) -> Result<Item, ItemFault>
+    ensures taken { IfOk result (λ i. Takes (item kind) (items_ahead format room.old (ahead reader.old (S.left source.old))) i
+        (items_ahead format room.new (ahead reader.new (S.left source.new)))) }
+    ensures refused { (flaw : Flaw) → result ≡ Err (ItemFault.Flaw flaw) → Refuses (item kind) (items_ahead format room.old (ahead reader.old (S.left source.old))) flaw }
+    ensures input { IsErrOf result ItemFault.Input → Rose (S.faults source.old) (S.faults source.new) }
+    ensures later { S.faults source.old ≤ S.faults source.new }
+{
+    if format == Format::Ascii {
+        return Ok(Item::Token(next_token(reader, source, room)?));
+    }
+    Ok(Item::Field(next_field(reader, source, room, format, kind)?))
 }

@@ -3,10 +3,17 @@
 
 mod faces;
 mod fault;
+mod field;
 mod frame;
+mod item;
 mod item_reader;
+#[cfg(test)]
+mod item_tests;
+mod meaning;
 mod points;
 mod spots;
+mod token;
+mod whole_number;
 
 pub use faces::Faces;
 pub use fault::BodyFault;

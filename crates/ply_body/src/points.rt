@@ -53,5 +53,5 @@ pub fn load<I: Source, B: Blob>(
     ensures input_later { I.faults src.old ≤ I.faults src.new }
     ensures work_later { B.faults points.old ≤ B.faults points.new }
 {
-    match items.never {}
+    match buffer.never {}
 }

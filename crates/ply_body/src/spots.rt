@@ -14,7 +14,7 @@ use tpz_io::{Blob, Failed};
 
 // Stands for what isn't written yet.
 #[derive(Clone, Copy, Debug, PartialEq, Eq)]
-enum Never {}
+pub enum Never {}
 
 /// A row of the vertices, in whole scaled units: each at most 2,147,483,647 in absolute value.
 #[derive(Clone, Copy)]
@@ -35,7 +35,7 @@ pub enum PointFault {
 #[derive(Drop)]
 pub struct PointBuffer {
     bytes: Vec<u8>,
-    never: Never,
+    pub never: Never,
 }
 
 impl Model for PointBuffer {
@@ -78,7 +78,12 @@ impl PointBuffer {
     }
 
     /// The point with this number, relative to `low`.
-    pub fn read_point<B: Blob>(&mut self, points: &mut B, frame: &Frame, number: u32) -> Result<Point, PointFault>
+    pub fn read_point<B: Blob>(
+        &mut self,
+        points: &mut B,
+        frame: &Frame,
+        number: u32,
+    ) -> Result<Point, PointFault>
         requires number { number < frame.now.vertices }
         requires small { IsSmallFrame frame.now }
         requires points { ForSome (B.held points.old) (HoldsPoints frame.now) }

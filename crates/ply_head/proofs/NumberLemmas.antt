@@ -138,6 +138,12 @@ small_fraction m t small far =
 pub power_small : (t : ℕ) → t ≤ 30 → 10 ^ t ≤ 10 ^ 30
 power_small t short = pow-le-pow_right {n = 10} (lit< tt) {i = t} {j = 30} short
 
+pub power_fits : (t : ℕ) → t ≤ 18 → 10 ^ t ≤ 10 ^ 18
+power_fits t h = pow-le-pow_right {n = 10} (lit< tt) {i = t} {j = 18} h
+
+pub power_below : (t : ℕ) → t ≤ 4 → 10 ^ t ≤ 10000
+power_below t h = pow-le-pow_right {n = 10} (lit< tt) {i = t} {j = 4} h
+
 -- an element that passes stands before the end
 pub any_before : (p : ℕ → Bool) (xs : List ℕ) → list_any p xs ≡ nat_lt (position_or_len p xs) (length xs)
 any_before p [] = refl

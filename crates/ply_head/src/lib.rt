@@ -20,4 +20,4 @@ mod words;
 pub use element::{Element, Format, Kind, Property, Role, Used};
 pub use fault::{HeadFault, NumberFault};
 pub use head::{Head, HeadParts, read_head};
-pub use number::read_number;
+pub use number::{are_all_digits, digits_value, is_negative, read_number, without_sign};
