@@ -1,0 +1,2 @@
+pub mod SpotRows
+pub mod CubeRows
