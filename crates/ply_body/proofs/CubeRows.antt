@@ -1,21 +1,26 @@
 -- The least and the greatest coordinates of rows, and the rows less the least.
 use Rattle.std.proofs.Common.{◌≡◌, ℕ, zero, suc, ◌+◌, ◌≤◌, ◌<◌, ◌^◌, List, [], ◌∷◌, ◌++◌, map, length, get_or, refl, sym, ◌∙◌, ap, subst, cond, arith}
-use Rattle.std.specs.Prelude.{max, Bool, true, false, IsTrue, ℤ, pos, negsuc, ◌-ℤ◌, ◌≤ℤ◌, fold, All, find, nat_le, unwrap_or}
+use Rattle.std.specs.Prelude.{max, Bool, true, false, IsTrue, ℤ, pos, negsuc, ◌-ℤ◌, ◌≤ℤ◌, fold, All, find, nat_le, nat_lt, unwrap_or}
 use Rattle.std.specs.Int.{int_min, int_max}
 use Rattle.std.specs.List.{AllByRecursion, range_with_len, slice_index_or}
+use Rattle.std.specs.Option.{option_or}
 use Rattle.std.specs.declared.option.Option.{Option}
 use Rattle.std.specs.declared.option.Option.TheVariants.{None, Some}
 use Rattle.std.proofs.lemmas.Int.{ints, clamps}
-use borrow.Author.Tests.{leb-true}
+use Rattle.std.proofs.lemmas.Bool.{leb-true, le-leb, lt-leb, ltb-false}
 use Rattle.std.proofs.lemmas.List.{map-append}
 use Rattle.std.proofs.lemmas.List.Sums.{fold-append}
 use Rattle.std.proofs.lemmas.List.Elements.{All-nil, All-from_recursion}
 use Rattle.tpz_base.specs.Points.{point}
-use Rattle.tpz_base.specs.Cubes.{Row, less, level_bound, low_of, natural_of, widest}
+use Rattle.tpz_base.specs.Cubes.{Row, extent, least, less, level_bound, low_of, most, natural_of, widest}
 use Rattle.ply_body.specs.declared.frame.Frame.{Frame}
 use Rattle.ply_body.specs.Inputs.{point_at, points_of}
-use Rattle.ply_body.specs.Spots.{IsFrameOf, IsInCube, IsNear, IsOver}
-use Rattle.ply_body.specs.Hulls.{lower, higher, high_of}
+use Rattle.ply_body.specs.Spots.{row_of, IsFrameOf, IsInCube, IsNear, IsOver}
+use Rattle.ply_body.specs.Hulls.{level_from, lower, higher, high_of, HasHull}
+use Rattle.ply_body.specs.declared.hull.Hull.{Hull}
+use Rattle.ply_body.specs.declared.fault.BodyFault.{BodyFault}
+use Rattle.ply_body.specs.declared.fault.BodyFault.TheVariants as fault
+use Rattle.ply_body.specs.Bodies.{too_wide, wide}
 
 -- a fold of rows goes by axis
 fold_lower : (r : Row) (rows : List Row) → fold lower r rows
@@ -138,3 +143,62 @@ place_of low (r ∷ rows) (suc n) d below = place_of low rows n d (omega arith)
 
 pub point_at_is : (rows : List Row) (n : ℕ) (d : Row) → n < length rows → point_at (points_of rows) n ≡ less (low_of rows) (get_or rows n d)
 point_at_is rows n d below = place_of (low_of rows) rows n d below
+
+-- The level that covers a width.
+
+pub level_here : (w l n : ℕ) → w ≤ 2 ^ l → level_from l (suc n) w ≡ l
+unfolding level_from
+level_here w l n fits = rw (le-leb w (2 ^ l) fits) refl
+
+pub level_next : (w l n : ℕ) → 2 ^ l < w → level_from l (suc n) w ≡ level_from (l + 1) n w
+unfolding level_from
+level_next w l n past = rw (lt-leb w (2 ^ l) past) refl
+
+pub level_end : (w l : ℕ) → l ≡ 30 → level_from l 1 w ≡ 30
+unfolding level_from
+level_end w l is = go l (nat_le w (2 ^ l)) is
+  where
+    go : (l : ℕ) (b : Bool) → l ≡ 30 → ◌≡◌ {A = ℕ} (unwrap_or (cond b (Some l) None) 30) 30
+    go l true is = is
+    go l false is = refl
+
+pub level_is : (rows : List Row) → level_bound rows ≡ level_from 1 30 (widest rows)
+unfolding level_from
+level_is rows = refl
+
+-- The faults of axes.
+
+pub or_three : (x y z x' y' z' : Option BodyFault) → x ≡ x' → y ≡ y' → z ≡ z' → option_or x (option_or y z) ≡ option_or x' (option_or y' z')
+or_three x y z x' y' z' xs ys zs = cc
+
+or_none : (x y : Option BodyFault) → option_or x y ≡ None → (x ≡ None) × (y ≡ None)
+or_none None y is = (refl, is)
+or_none (Some f) y is = absurd (cc)
+
+not_wide : (axis : ℕ) (vs : List ℤ) → wide axis vs ≡ None → extent vs ≤ 2 ^ 30
+not_wide axis vs is = go (nat_lt (2 ^ 30) (extent vs)) refl is
+  where
+    go : (b : Bool) → nat_lt (2 ^ 30) (extent vs) ≡ b → ◌≡◌ {A = Option BodyFault} (cond b (Some (fault.Extent axis (least vs) (most vs))) None) None → extent vs ≤ 2 ^ 30
+    go true test is = absurd (cc)
+    go false test is = ltb-false (2 ^ 30) (extent vs) test
+
+pub narrow_is : (rows : List Row) → too_wide rows ≡ None → widest rows ≤ 2 ^ 30
+narrow_is rows is =
+    let (on_x, others) = or_none _ _ is in
+    let (on_y, on_z) = or_none _ _ others in
+    let x = not_wide 0 (map (λ (r : Row). r.x) rows) on_x in
+    let y = not_wide 1 (map (λ (r : Row). r.y) rows) on_y in
+    let z = not_wide 2 (map (λ (r : Row). r.z) rows) on_z in
+    omega (arith, x, y, z)
+
+-- the extents of rows, by their hull
+pub widest_is : (rows : List Row) (hull : Hull) (x y z : ℕ) → HasHull hull rows → x ≡ natural_of (hull.high.x -ℤ hull.low.x)
+    → y ≡ natural_of (hull.high.y -ℤ hull.low.y) → z ≡ natural_of (hull.high.z -ℤ hull.low.z) → max x (max y z) ≡ widest rows
+widest_is rows hull x y z is xs ys zs = sym (ap (λ (h : Row). between (low_of rows) h) is.high ∙ ap (λ (l : Row). between l (row_of hull.high)) is.low
+    ∙ three _ _ _ x y z (sym xs) (sym ys) (sym zs))
+  where
+    between : Row → Row → ℕ
+    between low high = max (natural_of (high.x -ℤ low.x)) (max (natural_of (high.y -ℤ low.y)) (natural_of (high.z -ℤ low.z)))
+
+    three : (a b c a' b' c' : ℕ) → a ≡ a' → b ≡ b' → c ≡ c' → max a (max b c) ≡ max a' (max b' c')
+    three a b c a' b' c' x y z = cc

@@ -4,6 +4,7 @@
 mod faces;
 mod fault;
 mod frame;
+mod hull;
 mod item_reader;
 mod points;
 mod spots;

@@ -68,8 +68,8 @@ fn above(value: i32, low: i64, side: u32) -> Option<u32>
     Some(distance as u32)
 }
 
-// The side of the cube of a level.
-fn side_of(level: u8) -> u32
+/// The side of the cube of a level, in whole scaled units.
+pub fn side_of(level: u8) -> u32
     requires { level ≤ 30 }
     ensures { result ≡ 2 ^ level }
 {
