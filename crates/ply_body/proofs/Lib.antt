@@ -1,2 +1,3 @@
 pub mod SpotRows
 pub mod CubeRows
+pub mod Taking

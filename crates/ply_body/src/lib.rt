@@ -7,6 +7,7 @@ mod frame;
 mod hull;
 mod item_reader;
 mod points;
+mod row;
 mod spots;
 
 pub use faces::Faces;
