@@ -1,3 +1,4 @@
 pub mod SpotRows
 pub mod CubeRows
 pub mod Taking
+pub mod RowsSoFar

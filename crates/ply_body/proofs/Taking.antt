@@ -13,17 +13,17 @@ use Rattle.ply_head.specs.declared.element.Property.{Property}
 use Rattle.ply_body.specs.Items.{◌>>=◌, Item, Items, coordinate_of, count_of, item, item_as, skipped, Takes, Refuses}
 use Rattle.ply_body.specs.Bodies.{Setting, RowItems, scalar, with_property, with_properties}
 
-pub chain : {X Y : Type 0} (f : Items → Result (X × Items) Flaw) (g : X × Items → Result Y Flaw) (old mid : Option Items) (x : X)
-    → Takes f old x mid → option_map (λ i. f i >>= g) old ≡ option_map (λ i. g (x, i)) mid
+pub chain : {X Y E : Type 0} (f : Items → Result (X × Items) E) (g : X × Items → Result Y E) (old mid : Option Items) (x : X)
+    → option_map f old ≡ option_map (λ i. Ok (x, i)) mid → option_map (λ i. f i >>= g) old ≡ option_map (λ i. g (x, i)) mid
 chain f g None None x is = refl
 chain f g None (Some m) x is = absurd (cc)
 chain f g (Some o) None x is = absurd (cc)
 chain f g (Some o) (Some m) x is = (let e : f o ≡ Ok (x, m) = cc in ap (λ r. Some (r >>= g)) e)
 
 -- the first is refused
-pub refused_first : {X Y : Type 0} (f : Items → Result (X × Items) Flaw) (g : X × Items → Result Y Flaw) (old : Option Items) (flaw : Flaw)
-    → Refuses f old flaw → Refuses (λ i. f i >>= g) old flaw
-refused_first f g old flaw is = λ items told. ap (λ r. r >>= g) (is items told)
+pub refused_first : {X Y E : Type 0} (f : Items → Result (X × Items) E) (g : X × Items → Result Y E) (old : Option Items) (e : E)
+    → ForSome old (λ i. f i ≡ Err e) → ForSome old (λ i. (f i >>= g) ≡ Err e)
+refused_first f g old e is = λ items told. ap (λ r. r >>= g) (is items told)
 
 -- what is left behind the first is refused
 pub refused_behind : {A : Type 0} (f g : Items → A) (old mid : Option Items) (a : A) → option_map f old ≡ option_map g mid

@@ -1,20 +1,22 @@
 // The rows up to the end of the used vertex element.
-ghost use Rattle.std.specs.Prelude.{◌≡◌, ◌≤◌, ◌∷◌, [], ℕ, List, drop, Ok, Err, None, IfOk, IsErrOf};
+ghost use Rattle.std.specs.Prelude.{◌≡◌, ◌≢◌, ◌≤◌, ◌∷◌, [], ℕ, List, All, drop, Ok, Err, None, IfOk, OnOk, IsErrOf};
 ghost use Rattle.std.specs.Option.{ForSome, option_map};
 ghost use Rattle.tpz_io.specs.Causes.{Rose};
 ghost use Rattle.tpz_base.specs.Cubes.{Row};
-ghost use Rattle.ply_head.specs.Heads.{IsLaidOut, IsSmall};
+ghost use Rattle.ply_head.specs.Heads.{IsLaidOut, IsOfVertex, IsOther, IsSmall};
 ghost use Rattle.ply_body.specs.declared.fault.BodyFault.{BodyFault};
 ghost use Rattle.ply_body.specs.Items.{items_told};
-ghost use Rattle.ply_body.specs.Bodies.{elements as input_from, no_input};
+ghost use Rattle.ply_body.specs.Bodies.{elements as input_from, no_input, row_count as row_count_of};
 ghost use Rattle.ply_body.specs.Inputs.{setting_of};
-ghost use Rattle.ply_body.specs.Spots.{HoldsRows, IsFrameOf, IsSmallFrame};
+ghost use Rattle.ply_body.specs.Spots.{row_of, HoldsRows, IsFrameOf, IsSmallFrame};
+ghost use Rattle.ply_body.specs.VertexRows.{row_fault, IsOfInput, RefusesRowAt, RefusesRows, TakesRow, TakesRows};
 ghost use Rattle.ply_body.specs.Readings.{faces_from, with_spots, IsRefusal, IsRest};
 
-use crate::fault::BodyFault;
+use crate::fault::{BodyFault, Flaw};
 use crate::frame::Frame;
-use crate::item_reader::ItemReader;
-use crate::spots::PointBuffer;
+use crate::item_reader::{ItemFault, ItemReader};
+use crate::row::read_row;
+use crate::spots::{PointBuffer, Spot};
 use ply_head::Element;
 use tpz_io::{Blob, Source};
 
@@ -23,6 +25,84 @@ use tpz_io::{Blob, Source};
 pub struct Loaded {
     pub frame: Frame,
     pub next: usize,
+}
+
+fn fault_at(fault: ItemFault, element: u32, row: u64) -> BodyFault
+    ensures { result ≡ row_fault element row fault }
+{
+    match fault {
+        ItemFault::Flaw(Flaw::Short) => BodyFault::Short { element, row },
+        ItemFault::Flaw(Flaw::Number) => BodyFault::Number { element, row },
+        ItemFault::Flaw(Flaw::Range) => BodyFault::Range { element, row },
+        ItemFault::Flaw(Flaw::BadIndex { index }) => BodyFault::BadIndex {
+            element,
+            row,
+            index,
+        },
+        ItemFault::Flaw(Flaw::TooManyTris) => BodyFault::TooManyTris { element, row },
+        ItemFault::Flaw(Flaw::TooLong) => BodyFault::TooLong { element, row },
+        ItemFault::Input => BodyFault::InputFault,
+    }
+}
+
+// How many rows are read. An element without properties has no items.
+fn row_count(element: &Element) -> u64
+    ensures { result ≡ row_count_of element.now }
+{
+    if element.properties().is_empty() {
+        return 0;
+    }
+    element.count()
+}
+
+// Takes the items of a row of this number, and says where it is refused.
+fn take_row<I: Source>(
+    items: &mut ItemReader,
+    element: &Element,
+    number: u32,
+    row: u64,
+    digits: u8,
+    src: &mut I,
+) -> Result<Spot, BodyFault>
+    requires digits { digits ≤ 9 }
+    requires properties { All IsOfVertex element.now.properties }
+    ensures taken { IfOk result (λ spot. TakesRow digits element.now.properties
+        (items_told items.old (I.left src.old)) (row_of spot) (items_told items.new (I.left src.new))) }
+    ensures refused { (f : BodyFault) → result ≡ Err f → IsRefusal f
+        → RefusesRowAt digits element.now.properties number row (items_told items.old (I.left src.old)) f }
+    ensures input { IsErrOf result BodyFault.InputFault → Rose (I.faults src.old) (I.faults src.new) }
+    ensures device { (f : BodyFault) → result ≡ Err f → IsOfInput f }
+    ensures later { I.faults src.old ≤ I.faults src.new }
+{
+    match read_row(items, element.properties(), digits, src) {
+        Ok(spot) => Ok(spot),
+        Err(fault) => Err(fault_at(fault, number, row)),
+    }
+}
+
+// Takes the rows of an element that isn't used.
+fn skip_rows<I: Source>(
+    items: &mut ItemReader,
+    element: &Element,
+    number: u32,
+    digits: u8,
+    src: &mut I,
+) -> Result<(), BodyFault>
+    requires digits { digits ≤ 9 }
+    requires element { IsOther element.now }
+    ensures taken { OnOk result ((rows : List Row) × TakesRows digits number element.now
+        (items_told items.old (I.left src.old)) rows (items_told items.new (I.left src.new))) }
+    ensures refused { (f : BodyFault) → result ≡ Err f → IsRefusal f
+        → RefusesRows digits number element.now (items_told items.old (I.left src.old)) f }
+    ensures input { IsErrOf result BodyFault.InputFault → Rose (I.faults src.old) (I.faults src.new) }
+    ensures device { (f : BodyFault) → result ≡ Err f → IsOfInput f }
+    ensures later { I.faults src.old ≤ I.faults src.new }
+{
+    let count = row_count(element);
+    'rows: for row in 0..count {
+        take_row(items, element, number, row, digits, src)?;
+    }
+    Ok(())
 }
 
 /// Reads to the end of the used vertex element, and writes each point to the blob.
