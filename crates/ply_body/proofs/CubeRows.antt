@@ -1,6 +1,6 @@
 -- The least and the greatest coordinates of rows, and the rows less the least.
 use Rattle.std.proofs.Common.{◌≡◌, ℕ, zero, suc, ◌+◌, ◌≤◌, ◌<◌, ◌^◌, List, [], ◌∷◌, ◌++◌, map, length, get_or, refl, sym, ◌∙◌, ap, subst, cond, arith}
-use Rattle.std.specs.Prelude.{max, Bool, true, false, IsTrue, ℤ, pos, negsuc, ◌-ℤ◌, ◌≤ℤ◌, fold, All, find, nat_le, nat_lt, unwrap_or}
+use Rattle.std.specs.Prelude.{IfSome, max, Bool, true, false, IsTrue, ℤ, pos, negsuc, ◌-ℤ◌, ◌≤ℤ◌, fold, All, find, nat_le, nat_lt, unwrap_or}
 use Rattle.std.specs.Int.{int_min, int_max}
 use Rattle.std.specs.List.{AllByRecursion, range_with_len, slice_index_or}
 use Rattle.std.specs.Option.{option_or}
@@ -16,7 +16,7 @@ use Rattle.tpz_base.specs.Cubes.{Row, extent, least, less, level_bound, low_of, 
 use Rattle.ply_body.specs.declared.frame.Frame.{Frame}
 use Rattle.ply_body.specs.Inputs.{point_at, points_of}
 use Rattle.ply_body.specs.Spots.{row_of, IsFrameOf, IsInCube, IsNear, IsOver}
-use Rattle.ply_body.specs.Hulls.{level_from, lower, higher, high_of, HasHull}
+use Rattle.ply_body.specs.Hulls.{level_from, lower, higher, high_of, HasHull, IsExtent}
 use Rattle.ply_body.specs.declared.hull.Hull.{Hull}
 use Rattle.ply_body.specs.declared.fault.BodyFault.{BodyFault}
 use Rattle.ply_body.specs.declared.fault.BodyFault.TheVariants as fault
@@ -202,3 +202,7 @@ widest_is rows hull x y z is xs ys zs = sym (ap (λ (h : Row). between (low_of r
 
     three : (a b c a' b' c' : ℕ) → a ≡ a' → b ≡ b' → c ≡ c' → max a (max b c) ≡ max a' (max b' c')
     three a b c a' b' c' x y z = cc
+
+pub or_extent : (a b : Option BodyFault) → IfSome a IsExtent → IfSome b IsExtent → IfSome (option_or a b) IsExtent
+or_extent None b x y = y
+or_extent (Some f) b x y = x

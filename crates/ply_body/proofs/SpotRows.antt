@@ -1,6 +1,6 @@
 -- The bytes of rows in a blob, and the row at a place among them.
 use Rattle.std.proofs.Common.{◌≡◌, ℕ, zero, suc, ◌+◌, ◌-◌, ◌*◌, ◌^◌, ◌<◌, ◌≤◌, List, [], ◌∷◌, ◌++◌, length, take, drop, replicate, get_or, refl, sym, ◌∙◌, ap, subst, arith, append_assoc, w32}
-use Rattle.std.specs.Prelude.{ℤ, pos, ◌-ℤ◌, FitsSigned}
+use Rattle.std.specs.Prelude.{Bool, false, ℤ, pos, ◌-ℤ◌, FitsSigned, Result, Ok, Err, OnOk, is_err}
 use Rattle.std.specs.List.{slice_index_or}
 use Rattle.std.specs.Int.{cast_signed, cast_unsigned}
 use Rattle.std.specs.Option.{ForSome, option_map}
@@ -122,3 +122,12 @@ pub point_is : (low : List ℤ) (row : Row) (x y z : ℕ) → x ≡ natural_of (
     → (corner : Row) → low ≡ coordinates corner → point x y z ≡ less corner row
 point_is low row x y z xs ys zs corner is = points_equal x y z _ _ _ (xs ∙ distance_same low corner 0 row.x is)
     (ys ∙ distance_same low corner 1 row.y is) (zs ∙ distance_same low corner 2 row.z is)
+
+-- what holds where a call is answered
+pub where_ok : {T E : Type 0} (P : Type 0) (r : Result T E) → is_err r ≡ false → OnOk r P → P
+where_ok P (Ok x) is p = p
+where_ok P (Err e) is p = absurd (cc)
+
+-- no rows are held by any bytes
+pub keeps_none : (way : Bytes) (told : Option Bytes) → way ≡ [] → Keeps [] way told
+keeps_none way told is = ([], [], refl, is, λ bytes same. refl)

@@ -3,6 +3,8 @@ use Rattle.std.specs.Prelude.{◌≡◌, ◌≢◌, ℕ, ◌^◌, List, [], map,
 use Rattle.std.specs.List.{range_with_len}
 use Rattle.std.specs.Int.{int_min, int_max}
 use Rattle.tpz_base.specs.Cubes.{Row, low_of, most}
+use Rattle.ply_body.specs.declared.fault.BodyFault.{BodyFault}
+use Rattle.ply_body.specs.declared.fault.BodyFault.TheVariants.{Extent}
 use Rattle.ply_body.specs.declared.hull.Hull.{Hull}
 use Rattle.ply_body.specs.Spots.{row_of}
 
@@ -31,3 +33,7 @@ IsHullOf (Some hull) rows = HasHull hull rows
 -- the first of n levels, from l on, whose power of two covers the width, and else 30
 unfoldable pub level_from : ℕ → ℕ → ℕ → ℕ
 level_from l n width = unwrap_or (find (λ k. nat_le width (2 ^ k)) (range_with_len l n)) 30
+
+abbrev pub IsExtent : BodyFault → Type 0
+IsExtent (Extent axis least greatest) = Unit {0}
+IsExtent _ = ⊥

@@ -1,5 +1,5 @@
 -- What is taken of the items of a row that has no corners, and of the elements up to the used vertex element.
-use Rattle.std.specs.Prelude.{◌≡◌, ℕ, ◌+◌, List, [], ◌∷◌, ◌++◌, length, map, drop, All, Option, Some, None, Result, Ok, Err}
+use Rattle.std.specs.Prelude.{◌≡◌, ◌⊎◌, ℕ, ◌+◌, List, [], ◌∷◌, ◌++◌, length, map, drop, All, Option, Some, None, Result, Ok, Err}
 use Rattle.std.specs.Option.{option_map, ForSome}
 use Rattle.tpz_base.specs.Cubes.{Row}
 use Rattle.tpz_base.specs.Texts.{Bytes}
@@ -13,7 +13,7 @@ use Rattle.ply_body.specs.declared.item_reader.ItemFault.{ItemFault}
 use Rattle.ply_body.specs.declared.item_reader.ItemFault.TheVariants as item_fault
 use Rattle.ply_body.specs.declared.hull.Hull.{Hull}
 use Rattle.ply_body.specs.Items.{Items, Takes, Refuses}
-use Rattle.ply_body.specs.Bodies.{Setting, RowItems, nothing_used, with_property, with_properties, fault_of, rows, row_count, elements, no_input}
+use Rattle.ply_body.specs.Bodies.{Setting, RowItems, nothing_used, with_property, with_properties, fault_of, rows, row_count, too_wide, elements, no_input}
 use Rattle.ply_body.specs.Spots.{IsSmallRow, Keeps}
 use Rattle.ply_body.specs.Hulls.{IsHullOf}
 use Rattle.ply_body.specs.Readings.{IsRest}
@@ -90,11 +90,15 @@ pub record IsVertexAt (n : ℕ) (es : List Element) : Type 0 where
   pub vertex_used : IsVertexElement vertex
   pub rest : IsRest behind
 
--- The elements before the number k were read, and those from there on mean what all mean.
-abbrev pub ReadsElements : ℕ → List Element → ℕ → Option Items → Option Items → Type 0
-ReadsElements digits es k old now = (vertices : ℕ)
-    → option_map (elements (setting digits vertices) 0 es no_input) old ≡ option_map (elements (setting digits vertices) k (drop k es) no_input) now
+-- Elements of which none is used mean nothing: what stands behind them means what all mean.
+abbrev pub PassesElements : ℕ → List Element → Option Items → Option Items → Type 0
+PassesElements digits es old new = (vertices : ℕ) (behind : List Element)
+    → option_map (elements (setting digits vertices) 0 (es ++ behind) no_input) old ≡ option_map (elements (setting digits vertices) (length es) behind no_input) new
 
--- They are refused so.
-abbrev pub RefusesElements : ℕ → List Element → ℕ → Option Items → BodyFault → Type 0
-RefusesElements digits es k old f = (vertices : ℕ) → ForSome old (λ items. elements (setting digits vertices) k (drop k es) no_input items ≡ Err f)
+abbrev pub RefusesElements : ℕ → List Element → Option Items → BodyFault → Type 0
+RefusesElements digits es old f = (vertices : ℕ) (behind : List Element)
+    → ForSome old (λ items. elements (setting digits vertices) 0 (es ++ behind) no_input items ≡ Err f)
+
+-- The rows of the used vertex element are refused so, or they are read and too wide.
+abbrev pub RefusesVertex : ℕ → ℕ → Element → Option Items → Option Items → BodyFault → Type 0
+RefusesVertex digits e el old new f = RefusesRows digits e el old f ⊎ ((rs : List Row) × TakesRows digits e el old rs new × (too_wide rs ≡ Some f))

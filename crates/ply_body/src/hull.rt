@@ -1,8 +1,8 @@
 // The least and the greatest coordinates of the rows that came, and the frame of these rows.
-ghost use Rattle.std.specs.Prelude.{◌≡◌, ◌≤◌, ◌++◌, ◌∷◌, ◌-ℤ◌, [], ℤ, unsigned_abs, List, All, length, None};
+ghost use Rattle.std.specs.Prelude.{◌≡◌, ◌≤◌, ◌++◌, ◌∷◌, ◌-ℤ◌, [], ℤ, unsigned_abs, List, All, length, None, IfSome};
 ghost use Rattle.tpz_base.specs.Cubes.{least as least_of, most, natural_of, widest, Row};
 ghost use Rattle.ply_body.specs.Bodies.{too_wide as too_wide_of, wide as wide_of};
-ghost use Rattle.ply_body.specs.Hulls.{level_from, lower, higher, HasHull, IsHullOf};
+ghost use Rattle.ply_body.specs.Hulls.{level_from, lower, higher, HasHull, IsExtent, IsHullOf};
 ghost use Rattle.ply_body.specs.Spots.{coordinates, row_of, IsFrameOf, IsSmallFrame, IsSmallRow};
 
 use crate::fault::BodyFault;
@@ -62,7 +62,8 @@ fn extent(least: i32, greatest: i32) -> u32
 }
 
 fn wide(axis: u8, least: i32, greatest: i32) -> Option<BodyFault>
-    ensures { (values : List ℤ) → least_of values ≡ least → most values ≡ greatest → result ≡ wide_of axis values }
+    ensures wide { (values : List ℤ) → least_of values ≡ least → most values ≡ greatest → result ≡ wide_of axis values }
+    ensures extent { IfSome result IsExtent }
 {
     if extent(least, greatest) > WIDEST {
         return Some(BodyFault::Extent {
@@ -74,15 +75,26 @@ fn wide(axis: u8, least: i32, greatest: i32) -> Option<BodyFault>
     None
 }
 
-/// The first axis that is too wide.
-pub fn too_wide(hull: Hull) -> Option<BodyFault>
-    ensures { (rows : List Row) → HasHull hull rows → result ≡ too_wide_of rows }
+fn too_wide_hull(hull: Hull) -> Option<BodyFault>
+    ensures first { (rows : List Row) → HasHull hull rows → result ≡ too_wide_of rows }
+    ensures extent { IfSome result IsExtent }
 {
     let Hull { low, high } = hull;
     let on_x = wide(0, low.x, high.x);
     let on_y = wide(1, low.y, high.y);
     let on_z = wide(2, low.z, high.z);
     on_x.or(on_y.or(on_z))
+}
+
+/// The first axis that is too wide.
+pub fn too_wide(hull: Option<Hull>) -> Option<BodyFault>
+    ensures first { (rows : List Row) → IsHullOf hull rows → result ≡ too_wide_of rows }
+    ensures extent { IfSome result IsExtent }
+{
+    match hull {
+        Some(hull) => too_wide_hull(hull),
+        None => None,
+    }
 }
 
 // The level of a cube of this side at least; 30 where there is none.

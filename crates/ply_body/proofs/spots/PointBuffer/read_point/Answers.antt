@@ -8,12 +8,8 @@ use Rattle.tpz_base.specs.Texts.{Bytes}
 use Rattle.ply_body.specs.Bodies.{row_at as row_by}
 use Rattle.ply_body.specs.Spots.{row_bytes, row_of, HoldsRows, IsFrameOf, IsNear, IsSmallRow}
 use Rattle.ply_body.proofs.CubeRows.{row_near, point_at_is}
-use Rattle.ply_body.proofs.SpotRows.{fits_at, row_at}
+use Rattle.ply_body.proofs.SpotRows.{fits_at, row_at, where_ok}
 use Rattle.ply_body.proofs.spots.PointBuffer.read_point.Goals as goal
-
-where_ok : {T E : Type 0} (P : Type 0) (r : Result T E) → is_err r ≡ false → OnOk r P → P
-where_ok P (Ok x) is p = p
-where_ok P (Err e) is p = absurd (cc)
 
 no_row : Row
 no_row = row_by (pos 0) (pos 0) (pos 0)
