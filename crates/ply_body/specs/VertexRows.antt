@@ -1,5 +1,5 @@
 -- What is taken of the items of a row that has no corners, and of the elements up to the used vertex element.
-use Rattle.std.specs.Prelude.{◌≡◌, ◌⊎◌, ℕ, ◌+◌, List, [], ◌∷◌, ◌++◌, length, map, drop, All, Option, Some, None, Result, Ok, Err}
+use Rattle.std.specs.Prelude.{◌≡◌, ◌⊎◌, ℕ, ◌+◌, ◌<◌, List, [], ◌∷◌, ◌++◌, length, get_or, map, take, drop, All, Option, Some, None, Result, Ok, Err}
 use Rattle.std.specs.Option.{option_map, ForSome}
 use Rattle.tpz_base.specs.Cubes.{Row}
 use Rattle.tpz_base.specs.Texts.{Bytes}
@@ -81,14 +81,10 @@ pub record AreRead (found : Option Hull) (way : Bytes) (held : Option Bytes) (rs
 
 -- The used vertex element has this number, no element before it is used, and one used face element stands behind it.
 pub record IsVertexAt (n : ℕ) (es : List Element) : Type 0 where
-  pub before : List Element
-  pub vertex : Element
-  pub behind : List Element
-  pub order : es ≡ before ++ vertex ∷ behind
-  pub number : n ≡ length before
-  pub before_other : All IsOther before
-  pub vertex_used : IsVertexElement vertex
-  pub rest : IsRest behind
+  pub within : n < length es
+  pub before_other : All IsOther (take n es)
+  pub vertex : (d : Element) → IsVertexElement (get_or es n d)
+  pub rest : IsRest (drop (n + 1) es)
 
 -- Elements of which none is used mean nothing: what stands behind them means what all mean.
 abbrev pub PassesElements : ℕ → List Element → Option Items → Option Items → Type 0

@@ -9,7 +9,7 @@ ghost use Rattle.ply_body.specs.Items.{items_told};
 ghost use Rattle.ply_body.specs.Bodies.{elements as input_from, no_input, row_count as row_count_of, too_wide as too_wide_of};
 ghost use Rattle.ply_body.specs.Inputs.{setting_of};
 ghost use Rattle.ply_body.specs.Spots.{row_of, HoldsRows, IsFrameOf, IsSmallFrame};
-ghost use Rattle.ply_body.specs.VertexRows.{row_fault, AreRead, IsOfInput, PassesElements, RefusesElements, RefusesRowAt, RefusesRows, RefusesVertex, TakesRow, TakesRows};
+ghost use Rattle.ply_body.specs.VertexRows.{row_fault, AreRead, IsOfInput, IsVertexAt, PassesElements, RefusesElements, RefusesRowAt, RefusesRows, RefusesVertex, TakesRow, TakesRows};
 ghost use Rattle.ply_body.specs.Readings.{faces_from, with_spots, IsRefusal, IsRest};
 
 use crate::fault::{BodyFault, Flaw};
@@ -18,7 +18,7 @@ use crate::hull::{Hull, frame_of, too_wide, widened};
 use crate::item_reader::{ItemFault, ItemReader};
 use crate::row::read_row;
 use crate::spots::{PointBuffer, Spot};
-use ply_head::Element;
+use ply_head::{Element, Used};
 use tpz_io::{Blob, Source};
 
 /// The frame of the points, and the number of the element behind them.
@@ -205,6 +205,19 @@ fn load_vertex<I: Source, B: Blob>(
     }
 }
 
+// The number of the used vertex element.
+fn vertex_number(elements: &[Element]) -> usize
+    requires { IsLaidOut elements.now }
+    ensures { IsVertexAt result elements.now }
+{
+    'elements: for (number, element) in elements.iter().enumerate() {
+        if element.used() == Used::Vertex {
+            return number;
+        }
+    }
+    unreachable!()
+}
+
 /// Reads to the end of the used vertex element, and writes each point to the blob.
 pub fn load<I: Source, B: Blob>(
     items: &mut ItemReader,
@@ -233,5 +246,12 @@ pub fn load<I: Source, B: Blob>(
     ensures input_later { I.faults src.old ≤ I.faults src.new }
     ensures work_later { B.faults points.old ≤ B.faults points.new }
 {
-    match items.never {}
+    let number = vertex_number(elements);
+    skip_elements(items, &elements[..number], digits, src)?;
+    let vertex = &elements[number];
+    let frame = load_vertex(items, buffer, vertex, number as u32, digits, src, points)?;
+    Ok(Loaded {
+        frame,
+        next: number + 1,
+    })
 }
