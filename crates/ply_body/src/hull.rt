@@ -154,8 +154,8 @@ pub fn frame_of(hull: Option<Hull>, vertices: u64) -> Frame
         None => Frame {
             l: 1,
             low: [0; 3],
-            vertices,
-            end: 12 * vertices,
+            vertices: 0,
+            end: 0,
         },
     }
 }

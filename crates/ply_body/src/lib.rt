@@ -9,6 +9,8 @@ mod item_reader;
 mod points;
 mod row;
 mod spots;
+#[cfg(test)]
+mod spots_tests;
 
 pub use faces::Faces;
 pub use fault::BodyFault;
