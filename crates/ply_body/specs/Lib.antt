@@ -4,3 +4,5 @@ pub mod Inputs
 pub mod Spots
 pub mod Readings
 pub mod Tokens
+pub mod Hulls
+pub mod VertexRows

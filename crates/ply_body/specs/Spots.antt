@@ -1,11 +1,11 @@
 -- The points that a reader keeps in a blob, and the frame that tells of them.
-use Rattle.std.specs.Prelude.{◌≡◌, ℕ, ◌+◌, ◌*◌, ◌^◌, ◌≤◌, List, [], ◌∷◌, ◌++◌, length, take, flat_map, All, ℤ, unsigned_abs, Option}
+use Rattle.std.specs.Prelude.{◌≡◌, ℕ, ◌+◌, ◌*◌, ◌^◌, ◌≤◌, List, [], ◌∷◌, ◌++◌, length, take, flat_map, All, FitsSigned, ℤ, ◌≤ℤ◌, unsigned_abs, Option}
 use Rattle.std.specs.Option.{ForSome}
 use Rattle.std.specs.Int.{w32, cast_unsigned}
 use Rattle.byteorder.specs.Endian.{little_bytes}
 use Rattle.tpz_base.specs.declared.shape.Point.{Point}
 use Rattle.tpz_base.specs.declared.shape.Tri.{Tri}
-use Rattle.tpz_base.specs.Cubes.{Row, low_of, level_bound, widest}
+use Rattle.tpz_base.specs.Cubes.{Row, less, low_of, level_bound, widest}
 use Rattle.tpz_base.specs.Texts.{Bytes}
 use Rattle.ply_body.specs.declared.frame.Frame.{Frame}
 use Rattle.ply_body.specs.declared.spots.Spot.{Spot}
@@ -27,8 +27,15 @@ coordinates r = r.x ∷ r.y ∷ r.z ∷ []
 abbrev pub row_of : Spot → Row
 row_of s = record { x = s.x; y = s.y; z = s.z }
 
+-- each coordinate fits 32 bits, in two's complement
+pub record IsSmallRow (r : Row) : Type 0 where
+  pub x : FitsSigned w32 r.x
+  pub y : FitsSigned w32 r.y
+  pub z : FitsSigned w32 r.z
+
 -- The frame is that of these rows.
 pub record IsFrameOf (frame : Frame) (rows : List Row) : Type 0 where
+  pub small : All IsSmallRow rows
   pub l : frame.l ≡ level_bound rows
   pub low : frame.low ≡ coordinates (low_of rows)
   pub vertices : frame.vertices ≡ length rows
@@ -53,6 +60,22 @@ pub record IsInCube (l : ℕ) (p : Point) : Type 0 where
   pub y : p.y ≤ 2 ^ l
   pub z : p.z ≤ 2 ^ l
 
+-- the row has no coordinate below those of low
+pub record IsOver (low row : Row) : Type 0 where
+  pub x : low.x ≤ℤ row.x
+  pub y : low.y ≤ℤ row.y
+  pub z : low.z ≤ℤ row.z
+
+-- the row is in the cube of level l from low on
+pub record IsNear (l : ℕ) (low row : Row) : Type 0 where
+  pub over : IsOver low row
+  pub near : IsInCube l (less low row)
+
+-- the point of a row, relative to the coordinates of low
+pub record IsPointOf (l : ℕ) (low : List ℤ) (row : Row) (p : Point) : Type 0 where
+  pub point : (corner : Row) → low ≡ coordinates corner → p ≡ less corner row
+  pub cube : IsInCube l p
+
 pub record IsTriInCube (l : ℕ) (t : Tri) : Type 0 where
   pub a : IsInCube l t.a
   pub b : IsInCube l t.b
@@ -61,5 +84,5 @@ pub record IsTriInCube (l : ℕ) (t : Tri) : Type 0 where
 -- the bounds of a frame, whatever was read
 pub record IsSmallFrame (frame : Frame) : Type 0 where
   pub level : (1 ≤ frame.l) × (frame.l ≤ 30)
-  pub low : All (λ z. unsigned_abs z ≤ 2147483647) frame.low
+  pub low : All (λ z. unsigned_abs z ≤ 2147483648) frame.low
   pub end : frame.end ≤ 2 ^ 62

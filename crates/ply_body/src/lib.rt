@@ -6,14 +6,18 @@ mod fault;
 mod field;
 mod frame;
 mod item;
+mod hull;
 mod item_reader;
 #[cfg(test)]
 mod item_tests;
 mod meaning;
 mod points;
+mod row;
 mod spots;
 mod token;
 mod whole_number;
+#[cfg(test)]
+mod spots_tests;
 
 pub use faces::Faces;
 pub use fault::BodyFault;

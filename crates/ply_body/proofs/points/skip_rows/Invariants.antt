@@ -1,0 +1,12 @@
+use Rattle.std.proofs.Common.{◌≡◌, ◌≤◌, List, length}
+use Rattle.tpz_base.specs.Cubes.{Row}
+use Rattle.ply_body.specs.Items.{items_told}
+use Rattle.ply_body.specs.VertexRows.{TakesSoFar}
+use Rattle.ply_body.proofs.points.skip_rows.Given as goal
+
+abbrev pub invariant-rows : goal.invariant-rows
+invariant-rows g l = record {
+  taken : (rs : List Row) × (length rs ≡ l.row)
+      × TakesSoFar l.digits l.number l.element.properties l.count (items_told l.initial.items (g.I.Source.left l.initial.src)) rs (items_told l.items (g.I.Source.left l.src));
+  later : g.I.Source.faults l.initial.src ≤ g.I.Source.faults l.src;
+}

@@ -1,0 +1,118 @@
+// The items of a row that has no corners, taken one by one.
+ghost use Rattle.std.specs.Prelude.{◌≡◌, ◌≢◌, ◌≤◌, ℕ, All, Err, None, Some, IfOk, IsErrOf};
+ghost use Rattle.tpz_io.specs.Causes.{Rose};
+ghost use Rattle.ply_head.specs.Heads.{IsOfVertex, IsSkipped};
+ghost use Rattle.ply_body.specs.declared.fault.Flaw.{Flaw};
+ghost use Rattle.ply_body.specs.Bodies.{with_coordinate as with_coordinate_of};
+ghost use Rattle.ply_body.specs.Items.{items_told};
+ghost use Rattle.ply_body.specs.Spots.{row_of};
+ghost use Rattle.ply_body.specs.VertexRows.{TakesProperty, RefusesProperty, TakesRow, RefusesRow};
+
+use crate::item_reader::{ItemFault, ItemReader};
+use crate::spots::Spot;
+use ply_head::{Kind, Property, Role};
+use tpz_io::Source;
+
+fn with_coordinate(spot: Spot, role: Role, value: i32) -> Spot
+    ensures { row_of result ≡ with_coordinate_of role value (row_of spot) }
+{
+    match role {
+        Role::X => Spot { x: value, ..spot },
+        Role::Y => Spot { y: value, ..spot },
+        Role::Z => Spot { z: value, ..spot },
+        Role::Indices | Role::Skip => spot,
+    }
+}
+
+// Takes the items of a list that isn't used.
+fn skip_list<I: Source>(
+    items: &mut ItemReader,
+    property: Property,
+    count_kind: Kind,
+    spot: Spot,
+    src: &mut I,
+) -> Result<Spot, ItemFault>
+    requires list { property.count_kind ≡ Some count_kind }
+    requires role { property.role ≡ Role.Skip }
+    ensures taken { IfOk result (λ after. (digits : ℕ) → TakesProperty digits property (row_of spot)
+        (items_told items.old (I.left src.old)) (row_of after) (items_told items.new (I.left src.new))) }
+    ensures refused { (flaw : Flaw) → result ≡ Err (ItemFault.Flaw flaw)
+        → (digits : ℕ) → RefusesProperty digits property (row_of spot) (items_told items.old (I.left src.old)) flaw }
+    ensures input { IsErrOf result ItemFault.Input → Rose (I.faults src.old) (I.faults src.new) }
+    ensures later { I.faults src.old ≤ I.faults src.new }
+{
+    let count = items.count(src, count_kind)?;
+    items.skip(src, property.kind, count)?;
+    Ok(spot)
+}
+
+// Takes the item of a property that is no list.
+fn read_scalar<I: Source>(
+    items: &mut ItemReader,
+    property: Property,
+    digits: u8,
+    spot: Spot,
+    src: &mut I,
+) -> Result<Spot, ItemFault>
+    requires digits { digits ≤ 9 }
+    requires scalar { property.count_kind ≡ None }
+    requires role { property.role ≢ Role.Indices }
+    ensures taken { IfOk result (λ after. TakesProperty digits property (row_of spot)
+        (items_told items.old (I.left src.old)) (row_of after) (items_told items.new (I.left src.new))) }
+    ensures refused { (flaw : Flaw) → result ≡ Err (ItemFault.Flaw flaw)
+        → RefusesProperty digits property (row_of spot) (items_told items.old (I.left src.old)) flaw }
+    ensures input { IsErrOf result ItemFault.Input → Rose (I.faults src.old) (I.faults src.new) }
+    ensures later { I.faults src.old ≤ I.faults src.new }
+{
+    if property.role == Role::Skip {
+        items.skip(src, property.kind, 1)?;
+        return Ok(spot);
+    }
+    let value = items.coordinate(src, property.kind, digits)?;
+    Ok(with_coordinate(spot, property.role, value))
+}
+
+fn read_property<I: Source>(
+    items: &mut ItemReader,
+    property: Property,
+    digits: u8,
+    spot: Spot,
+    src: &mut I,
+) -> Result<Spot, ItemFault>
+    requires digits { digits ≤ 9 }
+    requires property { IsOfVertex property }
+    ensures taken { IfOk result (λ after. TakesProperty digits property (row_of spot)
+        (items_told items.old (I.left src.old)) (row_of after) (items_told items.new (I.left src.new))) }
+    ensures refused { (flaw : Flaw) → result ≡ Err (ItemFault.Flaw flaw)
+        → RefusesProperty digits property (row_of spot) (items_told items.old (I.left src.old)) flaw }
+    ensures input { IsErrOf result ItemFault.Input → Rose (I.faults src.old) (I.faults src.new) }
+    ensures later { I.faults src.old ≤ I.faults src.new }
+{
+    match property.count_kind {
+        Some(count_kind) => skip_list(items, property, count_kind, spot, src),
+        None => read_scalar(items, property, digits, spot, src),
+    }
+}
+
+/// Takes the items of a row: the coordinates by their roles, each 0 where none has the role, and all else skipped.
+pub fn read_row<I: Source>(
+    items: &mut ItemReader,
+    properties: &[Property],
+    digits: u8,
+    src: &mut I,
+) -> Result<Spot, ItemFault>
+    requires digits { digits ≤ 9 }
+    requires properties { All IsOfVertex properties.now }
+    ensures taken { IfOk result (λ spot. TakesRow digits properties.now
+        (items_told items.old (I.left src.old)) (row_of spot) (items_told items.new (I.left src.new))) }
+    ensures refused { (flaw : Flaw) → result ≡ Err (ItemFault.Flaw flaw)
+        → RefusesRow digits properties.now (items_told items.old (I.left src.old)) flaw }
+    ensures input { IsErrOf result ItemFault.Input → Rose (I.faults src.old) (I.faults src.new) }
+    ensures later { I.faults src.old ≤ I.faults src.new }
+{
+    let mut spot = Spot { x: 0, y: 0, z: 0 };
+    'row: for property in properties {
+        spot = read_property(items, *property, digits, spot, src)?;
+    }
+    Ok(spot)
+}
