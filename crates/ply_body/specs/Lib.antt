@@ -3,3 +3,4 @@ pub mod Bodies
 pub mod Inputs
 pub mod Spots
 pub mod Readings
+pub mod Places

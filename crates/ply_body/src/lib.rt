@@ -5,6 +5,7 @@ mod faces;
 mod fault;
 mod frame;
 mod item_reader;
+mod place;
 mod points;
 mod spots;
 

@@ -1,0 +1,99 @@
+-- Readings that follow one another.
+use Rattle.std.proofs.Common.{◌≡◌, ℕ, List, [], ◌∷◌, ◌++◌, refl, sym, ◌∙◌, ap, append_assoc}
+use Rattle.std.specs.Prelude.{Result, Ok, Err}
+use Rattle.std.specs.Option.{option_map, ForSome}
+use Rattle.std.specs.declared.option.Option.{Option}
+use Rattle.std.specs.declared.option.Option.TheVariants.{None, Some}
+use Rattle.tpz_base.specs.Texts.{Face}
+use Rattle.ply_body.specs.declared.fault.Flaw.{Flaw}
+use Rattle.ply_body.specs.declared.fault.BodyFault.{BodyFault}
+use Rattle.ply_body.specs.Items.{◌>>=◌, Items}
+use Rattle.ply_body.specs.Bodies.{placed, fault_of}
+use Rattle.ply_body.specs.Readings.{with_faces}
+
+pub bind_ok : {A B E : Type 0} (r : Result A E) (f : A → Result B E) (x : A) → r ≡ Ok x → (r >>= f) ≡ f x
+bind_ok r f x e = rw e refl
+
+pub bind_err : {A B E : Type 0} (r : Result A E) (f : A → Result B E) (e : E) → r ≡ Err e → (r >>= f) ≡ Err e
+bind_err r f e is = rw is refl
+
+pub bind_assoc : {A B C E : Type 0} (r : Result A E) (f : A → Result B E) (g : B → Result C E) → ((r >>= f) >>= g) ≡ (r >>= λ x. f x >>= g)
+bind_assoc (Ok x) f g = refl
+bind_assoc (Err e) f g = refl
+
+pub bind_same : {A B E : Type 0} (r : Result A E) (f g : A → Result B E) → ((x : A) → r ≡ Ok x → f x ≡ g x) → (r >>= f) ≡ (r >>= g)
+bind_same (Ok x) f g h = h x refl
+bind_same (Err e) f g h = refl
+
+pub placed_ok : {A : Type 0} (e r : ℕ) (q : Result A Flaw) (x : A) → q ≡ Ok x → placed e r q ≡ Ok x
+placed_ok e r q x is = rw is refl
+
+pub placed_err : {A : Type 0} (e r : ℕ) (q : Result A Flaw) (flaw : Flaw) → q ≡ Err flaw → placed e r q ≡ Err (fault_of e r flaw)
+placed_err e r q flaw is = rw is refl
+
+pub placed_bind : {A B : Type 0} (e r : ℕ) (q : Result A Flaw) (f : A → Result B Flaw) → placed e r (q >>= f) ≡ (placed e r q >>= λ x. placed e r (f x))
+placed_bind e r (Ok x) f = refl
+placed_bind e r (Err flaw) f = refl
+
+-- with faces in front, where each reading behind has them in front
+pub with_bind : {A : Type 0} (fs : List Face) (r : Result A BodyFault) (f g : A → Result (List Face) BodyFault)
+    → ((x : A) → f x ≡ with_faces fs (g x)) → (r >>= f) ≡ with_faces fs (r >>= g)
+with_bind fs (Ok x) f g h = h x
+with_bind fs (Err e) f g h = refl
+
+pub with_none : (r : Result (List Face) BodyFault) → with_faces [] r ≡ r
+with_none (Ok gs) = refl
+with_none (Err e) = refl
+
+pub with_both : (fs gs : List Face) (r : Result (List Face) BodyFault) → with_faces fs (with_faces gs r) ≡ with_faces (fs ++ gs) r
+with_both fs gs (Ok hs) = ap Ok (sym (append_assoc fs gs hs))
+with_both fs gs (Err e) = refl
+
+-- The same over what is told, where it is.
+pub told_none : (r : Option (Result (List Face) BodyFault)) → option_map (with_faces []) r ≡ r
+told_none None = refl
+told_none (Some r) = ap Some (with_none r)
+
+pub told_both : (fs gs : List Face) (a b c : Option (Result (List Face) BodyFault))
+    → a ≡ option_map (with_faces fs) b → b ≡ option_map (with_faces gs) c → a ≡ option_map (with_faces (fs ++ gs)) c
+told_both fs gs a b None p q = cc
+told_both fs gs a b (Some c) p q = p ∙ (ap (option_map (with_faces fs)) q ∙ ap Some (with_both fs gs c))
+
+-- a step over what is told, from the step over items
+pub takes_step : {X A B : Type 0} (read : Items → Result (X × Items) Flaw) (x : X) (f : Items → A) (g : Items → B) (h : B → A) (old new : Option Items)
+    → option_map read old ≡ option_map (λ (items : Items). Ok (x, items)) new → ((o n : Items) → read o ≡ Ok (x, n) → f o ≡ h (g n))
+    → option_map f old ≡ option_map h (option_map g new)
+takes_step read x f g h None None is step = refl
+takes_step read x f g h None (Some n) is step = cc
+takes_step read x f g h (Some o) None is step = cc
+takes_step read x f g h (Some o) (Some n) is step = let e : read o ≡ Ok (x, n) = cc in ap Some (step o n e)
+
+pub passes_step : {A B : Type 0} (read : Items → Result Items Flaw) (f : Items → A) (g : Items → B) (h : B → A) (old new : Option Items)
+    → option_map read old ≡ option_map Ok new → ((o n : Items) → read o ≡ Ok n → f o ≡ h (g n))
+    → option_map f old ≡ option_map h (option_map g new)
+passes_step read f g h None None is step = refl
+passes_step read f g h None (Some n) is step = cc
+passes_step read f g h (Some o) None is step = cc
+passes_step read f g h (Some o) (Some n) is step = let e : read o ≡ Ok n = cc in ap Some (step o n e)
+
+pub takes_same : {X B : Type 0} (read : Items → Result (X × Items) Flaw) (x : X) (f g : Items → B) (old new : Option Items)
+    → option_map read old ≡ option_map (λ (items : Items). Ok (x, items)) new → ((o n : Items) → read o ≡ Ok (x, n) → f o ≡ g n)
+    → option_map f old ≡ option_map g new
+takes_same read x f g None None is step = refl
+takes_same read x f g None (Some n) is step = cc
+takes_same read x f g (Some o) None is step = cc
+takes_same read x f g (Some o) (Some n) is step = let e : read o ≡ Ok (x, n) = cc in ap Some (step o n e)
+
+pub passes_same : {B : Type 0} (read : Items → Result Items Flaw) (f g : Items → B) (old new : Option Items)
+    → option_map read old ≡ option_map Ok new → ((o n : Items) → read o ≡ Ok n → f o ≡ g n)
+    → option_map f old ≡ option_map g new
+passes_same read f g None None is step = refl
+passes_same read f g None (Some n) is step = cc
+passes_same read f g (Some o) None is step = cc
+passes_same read f g (Some o) (Some n) is step = let e : read o ≡ Ok n = cc in ap Some (step o n e)
+
+-- what a later reading is refused for, from the place before
+pub same_refused : {B : Type 0} (f g : Items → B) (y : B) (old new : Option Items)
+    → option_map f old ≡ option_map g new → ForSome new (λ n. g n ≡ y) → ForSome old (λ o. f o ≡ y)
+same_refused f g y old None is late o told = cc
+same_refused f g y old (Some n) is late o told = let e : f o ≡ g n = cc in e ∙ late n refl

@@ -1,0 +1,156 @@
+-- Places in the rows of an element, and what the steps from one to the next say.
+use Rattle.std.specs.Prelude.{◌≡◌, ℕ, zero, suc, ◌+◌, ◌-◌, ◌^◌, ◌≤◌, ◌<◌, min, List, [], ◌∷◌, ◌++◌, length, take, drop, All, Option, Some, None, Result, Ok, Err}
+use Rattle.std.specs.Option.{option_map, ForSome, IfSome}
+use Rattle.tpz_io.specs.Causes.{Rose}
+use Rattle.tpz_base.specs.Texts.{Bytes, Face}
+use Rattle.ply_head.specs.declared.element.Kind.{Kind}
+use Rattle.ply_head.specs.declared.element.Kind.TheVariants.{U8}
+use Rattle.ply_head.specs.declared.element.Role.{Role}
+use Rattle.ply_head.specs.declared.element.Role.TheVariants.{Indices, Skip}
+use Rattle.ply_head.specs.declared.element.Property.{Property}
+use Rattle.ply_head.specs.declared.element.Element.{Element}
+use Rattle.ply_head.specs.Heads.{IsSkipped}
+use Rattle.ply_body.specs.declared.fault.Flaw.{Flaw}
+use Rattle.ply_body.specs.declared.fault.BodyFault.{BodyFault}
+use Rattle.ply_body.specs.declared.fault.BodyFault.TheVariants.{InputFault, WorkFault, WorkDamage}
+use Rattle.ply_body.specs.declared.item_reader.ItemFault.{ItemFault}
+use Rattle.ply_body.specs.declared.item_reader.ItemFault.TheVariants as item_faults
+use Rattle.ply_body.specs.declared.place.Corners.{Corners}
+use Rattle.ply_body.specs.declared.place.Polygon.{Polygon as CodePolygon}
+use Rattle.ply_body.specs.declared.place.Place.{Place}
+use Rattle.ply_body.specs.declared.place.Front.{Front}
+use Rattle.ply_body.specs.Items.{◌>>=◌, Items, ItemPlace, items_told, item_as, count_of, skipped}
+use Rattle.ply_body.specs.Bodies.{Setting, fan_count, fault_of}
+use Rattle.ply_body.specs.Readings.{Polygon, Cursor, front, coming, with_faces}
+
+-- the items behind those of a property that isn't used
+abbrev pub pass_one : Property → Items → Result Items Flaw
+pass_one p items = by_count p.count_kind where
+  by_count : Option Kind → Result Items Flaw
+  by_count None = skipped p.kind 1 items
+  by_count (Some count_kind) = item_as count_of count_kind items >>= λ n. skipped p.kind n.0 n.1
+
+-- the items behind those of properties that aren't used
+abbrev pub passed : List Property → Items → Result Items Flaw
+passed [] items = Ok items
+passed (p ∷ ps) items = pass_one p items >>= λ rest. passed ps rest
+
+-- the kind of the count of a list of indices
+abbrev pub indices_kind : Property → Option Kind
+indices_kind p = by_role p.role where
+  by_role : Role → Option Kind
+  by_role Indices = p.count_kind
+  by_role _ = None
+
+-- the list of indices of a row: their kind and count, and the properties behind the list
+pub record RowList : Type 0 where
+  pub kind : Kind
+  pub count : ℕ
+  pub behind : List Property
+
+abbrev pub row_list : Kind → ℕ → List Property → RowList
+row_list kind count behind = record { kind = kind; count = count; behind = behind }
+
+-- the same by the kind of the first property's count, where what follows it is known
+abbrev pub front_by : Option Kind → Property → List Property → (Items → Result (RowList × Items) Flaw) → Items → Result (RowList × Items) Flaw
+front_by None p ps more items = pass_one p items >>= more
+front_by (Some count_kind) p ps more items = item_as count_of count_kind items >>= λ n. Ok (row_list p.kind n.0 ps, n.1)
+
+-- the list of indices of a row, and the items behind its count
+abbrev pub front_of : List Property → Items → Result (RowList × Items) Flaw
+front_of [] items = Ok (row_list U8 0 [], items)
+front_of (p ∷ ps) items = front_by (indices_kind p) p ps (λ rest. front_of ps rest) items
+
+-- the properties from a place on; none where there is no place
+abbrev pub rest_of : Option ℕ → List Property → List Property
+rest_of None ps = []
+rest_of (Some k) ps = drop k ps
+
+abbrev pub front_read : Front → List Property → RowList
+front_read f ps = row_list f.kind f.count (rest_of f.behind ps)
+
+-- a fault of an item, in the row number r of the element number e
+abbrev pub item_fault : ℕ → ℕ → ItemFault → BodyFault
+item_fault e r (item_faults.Flaw flaw) = fault_of e r flaw
+item_fault e r item_faults.Input = InputFault
+
+abbrev pub face_of : Corners → Face
+face_of c = record { i = c.i; j = c.j; k = c.k }
+
+abbrev pub faces_of : Option Corners → List Face
+faces_of None = []
+faces_of (Some c) = face_of c ∷ []
+
+abbrev pub polygon_of : CodePolygon → Polygon
+polygon_of p = record { kind = p.kind; taken = p.taken; first = p.first; last = p.last; left = p.left }
+
+abbrev pub polygon_front : CodePolygon → List ℕ
+polygon_front p = front (polygon_of p)
+
+-- a place in an element with these properties, before these elements
+abbrev pub cursor_at : Place → List Property → List Element → Cursor
+cursor_at p ps es = record {
+  polygon = polygon_of p.polygon;
+  properties = rest_of p.behind ps;
+  row = p.row;
+  left = p.left;
+  formed = p.formed;
+  all = ps;
+  next = p.next;
+  behind = es;
+}
+
+-- the triangles to come from a place
+abbrev pub told_at : Setting → List Property → List Element → Place → ItemPlace → Option Bytes → Option (Result (List Face) BodyFault)
+told_at s ps es p items told = option_map (coming s (cursor_at p ps es)) (items_told items told)
+
+-- how many triangles were formed
+abbrev pub tally : Place → ℕ
+tally p = p.formed + fan_count p.polygon.taken
+
+-- corners below the number of vertices
+abbrev pub IsNear : ℕ → Corners → Type 0
+IsNear v c = (c.i < v) × (c.j < v) × (c.k < v)
+
+abbrev pub IsReach : Option ℕ → ℕ → Type 0
+IsReach None n = Unit {0}
+IsReach (Some k) n = k ≤ n
+
+-- a place in a row of these properties that leads to no overflow
+pub record IsPlacedIn (v : ℕ) (ps : List Property) (p : Place) : Type 0 where
+  pub next : p.next ≤ 64
+  pub behind : All IsSkipped (rest_of p.behind ps)
+  pub reach : IsReach p.behind (length ps)
+  pub rows : p.row + p.left ≤ 2147483648
+  pub corners : p.polygon.taken + p.polygon.left < 9223372036854775808
+  pub few : p.formed + fan_count p.polygon.taken ≤ 2147483648
+  pub near : 0 < p.polygon.taken → (p.polygon.first < v) × (p.polygon.last < v)
+
+-- a row was read to its end
+pub record IsEnded (p : Place) : Type 0 where
+  pub polygon : p.polygon.left ≡ 0
+  pub behind : p.behind ≡ None
+
+-- Why a reader ends with a fault: an input fault where a read failed, and else the refusal that was to come.
+abbrev pub IsReason : Option (Result (List Face) BodyFault) → ℕ → ℕ → BodyFault → Type 0
+IsReason coming before now InputFault = Rose before now
+IsReason coming before now WorkFault = ⊥
+IsReason coming before now (WorkDamage offset) = ⊥
+IsReason coming before now f = ForSome coming (λ r. r ≡ Err f)
+
+-- From the old place these faces come, and then those that come from the new one.
+abbrev pub Moves : ℕ → List Property → Place → ItemPlace → Option Bytes → Place → ItemPlace → Option Bytes → List Face → Type 0
+Moves v ps p items told p' items' told' faces = (s : Setting) (es : List Element) → s.vertices ≡ v
+    → told_at s ps es p items told ≡ option_map (with_faces faces) (told_at s ps es p' items' told')
+
+-- A step that ends with a fault has its reason.
+abbrev pub Fails : ℕ → List Property → Place → ItemPlace → Option Bytes → ℕ → ℕ → BodyFault → Type 0
+Fails v ps p items told before now f = (s : Setting) (es : List Element) → s.vertices ≡ v → IsReason (told_at s ps es p items told) before now f
+
+-- A step to a new place, with a triangle or without.
+pub record Goes (v : ℕ) (ps : List Property) (p : Place) (items : ItemPlace) (told : Option Bytes) (p' : Place) (items' : ItemPlace) (told' : Option Bytes) (found : Option Corners) : Type 0 where
+  pub moves : Moves v ps p items told p' items' told' (faces_of found)
+  pub placed : IsPlacedIn v ps p'
+  pub tally : tally p' ≡ tally p + length (faces_of found)
+  pub near : IfSome found (IsNear v)
+  pub next : p'.next ≡ p.next

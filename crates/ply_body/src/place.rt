@@ -1,0 +1,117 @@
+// A place in the rows of an element, and the steps from one to the next.
+ghost use Rattle.std.specs.Prelude.{◌≡◌, ◌≤◌, ◌<◌, ◌+◌, ◌-◌, ◌^◌, ◌∷◌, ◌++◌, [], ℕ, List, length, Err, Ok, IfOk, IfErr, OnOk, IsErrOf};
+ghost use Rattle.std.specs.Option.{option_map};
+ghost use Rattle.tpz_io.specs.Causes.{Rose};
+ghost use Rattle.ply_head.specs.declared.element.Element.{Element};
+ghost use Rattle.ply_body.specs.declared.fault.Flaw.{Flaw};
+ghost use Rattle.ply_body.specs.Items.{items_told, Refuses, Takes};
+ghost use Rattle.ply_body.specs.Bodies.{fan, fan_count, is_too_many as has_too_many, row_count as rows_of};
+ghost use Rattle.ply_body.specs.Places.{faces_of, front_of, pass_one, passed, indices_kind, item_fault, front_read, tally, polygon_front, rest_of, Fails, Goes, IsPlacedIn, IsEnded, IsNear};
+
+use crate::fault::{BodyFault, Flaw};
+use crate::item_reader::{ItemFault, ItemReader};
+use ply_head::{Element, Kind, Property, Role};
+use tpz_io::Source;
+
+// The greatest number of triangles, dropped ones counted.
+const MOST_TRIS: u64 = 2_147_483_648;
+
+/// The corners of a triangle, by the numbers of their vertices.
+#[derive(Clone, Copy)]
+pub struct Corners {
+    pub i: u32,
+    pub j: u32,
+    pub k: u32,
+}
+
+/// A polygon of which some corners were read: how many, the first and the last of them, and how many are left.
+#[derive(Clone, Copy)]
+pub struct Polygon {
+    pub kind: Kind,
+    pub taken: u64,
+    pub first: u32,
+    pub last: u32,
+    pub left: u64,
+}
+
+/// A place in an element: how many rows were begun and how many follow, the polygon of the row at hand, and where the
+/// properties behind it begin, if they weren't read. `formed` triangles come from the rows before. `next` is the number
+/// of the next element.
+#[derive(Clone, Copy)]
+pub struct Place {
+    pub polygon: Polygon,
+    pub behind: Option<usize>,
+    pub row: u64,
+    pub left: u64,
+    pub formed: u64,
+    pub next: usize,
+}
+
+// What was read of a row up to the count of its list of indices: the kind of these, their count, and where the
+// properties behind the list begin. A row without such a list has no corners and was read whole.
+#[derive(Clone, Copy)]
+struct Front {
+    kind: Kind,
+    count: u64,
+    behind: Option<usize>,
+}
+
+// How many triangles a polygon of so many corners forms.
+fn fan_size(corners: u64) -> u64
+    ensures { result ≡ fan_count corners }
+{
+    corners.saturating_sub(2)
+}
+
+// Whether the corner with this number would form a triangle too many.
+fn is_too_many(formed: u64, taken: u64) -> bool
+    requires formed { formed ≤ 2147483648 }
+    requires taken { taken < 9223372036854775808 }
+    ensures { result ≡ has_too_many formed taken }
+{
+    taken >= 2 && formed + (taken - 1) > MOST_TRIS
+}
+
+// The kind of the count, if it is the list of indices.
+fn kind_of_count(property: &Property) -> Option<Kind>
+    ensures { result ≡ indices_kind property.now }
+{
+    match property.role {
+        Role::Indices => property.count_kind,
+        _ => None,
+    }
+}
+
+// Takes the items of a property that aren't used.
+fn pass<I: Source>(items: &mut ItemReader, src: &mut I, property: &Property) -> Result<(), ItemFault>
+    ensures taken { OnOk result (option_map (pass_one property.now) (items_told items.old (I.left src.old)) ≡ option_map Ok (items_told items.new (I.left src.new))) }
+    ensures refused { (flaw : Flaw) → result ≡ Err (ItemFault.Flaw flaw) → Refuses (pass_one property.now) (items_told items.old (I.left src.old)) flaw }
+    ensures input { IsErrOf result ItemFault.Input → Rose (I.faults src.old) (I.faults src.new) }
+    ensures later { I.faults src.old ≤ I.faults src.new }
+{
+    let count_kind = match property.count_kind {
+        Some(count_kind) => count_kind,
+        None => return items.skip(src, property.kind, 1),
+    };
+    let count = match items.count(src, count_kind) {
+        Ok(count) => count,
+        Err(fault) => return Err(fault),
+    };
+    items.skip(src, property.kind, count)
+}
+
+// Takes the items of properties that aren't used.
+fn pass_all<I: Source>(items: &mut ItemReader, src: &mut I, properties: &[Property]) -> Result<(), ItemFault>
+    ensures taken { OnOk result (option_map (passed properties.now) (items_told items.old (I.left src.old)) ≡ option_map Ok (items_told items.new (I.left src.new))) }
+    ensures refused { (flaw : Flaw) → result ≡ Err (ItemFault.Flaw flaw) → Refuses (passed properties.now) (items_told items.old (I.left src.old)) flaw }
+    ensures input { IsErrOf result ItemFault.Input → Rose (I.faults src.old) (I.faults src.new) }
+    ensures later { I.faults src.old ≤ I.faults src.new }
+{
+    'properties: for property in properties {
+        match pass(items, src, property) {
+            Ok(()) => {}
+            Err(fault) => return Err(fault),
+        }
+    }
+    Ok(())
+}
