@@ -63,3 +63,11 @@ front_behind (p ∷ ps) qs items skip =
     (bind_same (pass_one p items) (λ rest. front_of (ps ++ qs) rest) (λ rest. passed ps rest >>= λ r. front_of qs r)
         (λ rest is. front_behind ps qs rest (All-tail IsSkipped p ps skip))
     ∙ sym (bind_assoc (pass_one p items) (λ rest. passed ps rest) (λ r. front_of qs r)))
+
+pub front_refused_at_list : (ps : List Property) (i : ℕ) (k : Kind) (x : Items) (flaw : Flaw) → i < length ps → Some k ≡ indices_kind (get_or ps i no_property)
+    → item_as count_of k x ≡ Err flaw → front_of (drop i ps) x ≡ Err flaw
+front_refused_at_list ps i k x flaw h is e = rw (drop_more ps i no_property h, ← is, e) refl
+
+pub front_refused_before : (ps : List Property) (i : ℕ) (x : Items) (flaw : Flaw) → i < length ps → None ≡ indices_kind (get_or ps i no_property)
+    → pass_one (get_or ps i no_property) x ≡ Err flaw → front_of (drop i ps) x ≡ Err flaw
+front_refused_before ps i x flaw h is e = rw (drop_more ps i no_property h, ← is, e) refl

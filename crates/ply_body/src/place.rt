@@ -1,12 +1,12 @@
 // A place in the rows of an element, and the steps from one to the next.
-ghost use Rattle.std.specs.Prelude.{◌≡◌, ◌≤◌, ◌<◌, ◌+◌, ◌-◌, ◌^◌, ◌∷◌, ◌++◌, [], ℕ, List, length, Err, Ok, IfOk, IfErr, OnOk, IsErrOf};
+ghost use Rattle.std.specs.Prelude.{◌≡◌, ◌⊎◌, ◌≤◌, ◌<◌, ◌+◌, ◌-◌, ◌^◌, ◌∷◌, ◌++◌, [], ℕ, List, length, Err, Ok, Some, None, IfOk, IfErr, IfSome, OnOk, IsErrOf};
 ghost use Rattle.std.specs.Option.{option_map};
 ghost use Rattle.tpz_io.specs.Causes.{Rose};
 ghost use Rattle.ply_head.specs.declared.element.Element.{Element};
 ghost use Rattle.ply_body.specs.declared.fault.Flaw.{Flaw};
-ghost use Rattle.ply_body.specs.Items.{items_told, Refuses, Takes};
-ghost use Rattle.ply_body.specs.Bodies.{fan, fan_count, is_too_many as has_too_many, row_count as rows_of};
-ghost use Rattle.ply_body.specs.Places.{faces_of, front_of, pass_one, passed, indices_kind, item_fault, front_read, tally, polygon_front, rest_of, Fails, Goes, IsPlacedIn, IsEnded, IsNear};
+ghost use Rattle.ply_body.specs.Items.{count_of, items_told, item_as, Refuses, Takes};
+ghost use Rattle.ply_body.specs.Bodies.{fan, fan_count, fault_of, is_too_many as has_too_many, row_count as rows_of};
+ghost use Rattle.ply_body.specs.Places.{faces_of, front_of, pass_one, passed, indices_kind, item_fault, front_read, tally, polygon_front, rest_of, Fails, Goes, IsPlacedIn, IsEnded, IsNear, IsReach};
 
 use crate::fault::{BodyFault, Flaw};
 use crate::item_reader::{ItemFault, ItemReader};
@@ -114,4 +114,127 @@ fn pass_all<I: Source>(items: &mut ItemReader, src: &mut I, properties: &[Proper
         }
     }
     Ok(())
+}
+
+// Takes what stands in a row up to the count of its list of indices.
+fn read_front<I: Source>(items: &mut ItemReader, src: &mut I, properties: &[Property]) -> Result<Front, ItemFault>
+    ensures taken { IfOk result (λ front. Takes (front_of properties.now) (items_told items.old (I.left src.old)) (front_read front properties.now) (items_told items.new (I.left src.new))) }
+    ensures fits { IfOk result (λ front. (front.count < 9223372036854775808) × IsReach front.behind (length properties.now)) }
+    ensures refused { (flaw : Flaw) → result ≡ Err (ItemFault.Flaw flaw) → Refuses (front_of properties.now) (items_told items.old (I.left src.old)) flaw }
+    ensures input { IsErrOf result ItemFault.Input → Rose (I.faults src.old) (I.faults src.new) }
+    ensures later { I.faults src.old ≤ I.faults src.new }
+{
+    'front: for (at, property) in properties.iter().enumerate() {
+        match kind_of_count(property) {
+            Some(count_kind) => return read_list(items, src, count_kind, property.kind, at + 1),
+            None => match pass(items, src, property) {
+                Ok(()) => {}
+                Err(fault) => return Err(fault),
+            },
+        }
+    }
+    Ok(Front {
+        kind: Kind::U8,
+        count: 0,
+        behind: None,
+    })
+}
+
+// Takes the count of the list of indices, before the properties from a place on.
+fn read_list<I: Source>(items: &mut ItemReader, src: &mut I, count_kind: Kind, kind: Kind, behind: usize) -> Result<Front, ItemFault>
+    ensures taken { IfOk result (λ front. (front.kind ≡ kind) × (front.behind ≡ Some behind) × Takes (item_as count_of count_kind) (items_told items.old (I.left src.old)) front.count (items_told items.new (I.left src.new))) }
+    ensures fits { IfOk result (λ front. front.count < 9223372036854775808) }
+    ensures refused { (flaw : Flaw) → result ≡ Err (ItemFault.Flaw flaw) → Refuses (item_as count_of count_kind) (items_told items.old (I.left src.old)) flaw }
+    ensures input { IsErrOf result ItemFault.Input → Rose (I.faults src.old) (I.faults src.new) }
+    ensures later { I.faults src.old ≤ I.faults src.new }
+{
+    match items.count(src, count_kind) {
+        Ok(count) => Ok(Front {
+            kind,
+            count,
+            behind: Some(behind),
+        }),
+        Err(fault) => Err(fault),
+    }
+}
+
+impl Polygon {
+    /// A polygon without corners.
+    pub fn none() -> Polygon
+        ensures { result ≡ record { kind = Kind.U8; taken = 0; first = 0; last = 0; left = 0 } }
+    {
+        Polygon {
+            kind: Kind::U8,
+            taken: 0,
+            first: 0,
+            last: 0,
+            left: 0,
+        }
+    }
+
+    /// Adds the next corner. From the third on each forms a triangle with the first and the last.
+    fn add(&mut self, corner: u32) -> Option<Corners>
+        requires left { 0 < self.old.left }
+        requires few { self.old.taken + self.old.left < 9223372036854775808 }
+        ensures fan { (more : List ℕ) → fan (polygon_front self.old ++ corner ∷ more) ≡ faces_of result ++ fan (polygon_front self.new ++ more) }
+        ensures kind { self.new.kind ≡ self.old.kind }
+        ensures taken { self.new.taken ≡ self.old.taken + 1 }
+        ensures left { self.old.left ≡ self.new.left + 1 }
+        ensures last { self.new.last ≡ corner }
+        ensures first { (self.new.first ≡ corner) ⊎ ((0 < self.old.taken) × (self.new.first ≡ self.old.first)) }
+        ensures formed { fan_count self.new.taken ≡ fan_count self.old.taken + length (faces_of result) }
+        ensures corners { IfSome result (λ face. (0 < self.old.taken) × (face.i ≡ self.old.first) × (face.j ≡ self.old.last) × (face.k ≡ corner)) }
+    {
+        let taken = self.taken;
+        let first = self.first;
+        let last = self.last;
+        self.taken += 1;
+        self.left -= 1;
+        self.last = corner;
+        if taken == 0 {
+            self.first = corner;
+            return None;
+        }
+        if taken == 1 {
+            return None;
+        }
+        Some(Corners {
+            i: first,
+            j: last,
+            k: corner,
+        })
+    }
+}
+
+impl Place {
+    // The place of a fault in the row at hand.
+    fn fault(&self, fault: ItemFault) -> BodyFault
+        requires { self.now.next ≤ 64 }
+        ensures { result ≡ item_fault (self.now.next - 1) (self.now.row - 1) fault }
+    {
+        let element = self.next.saturating_sub(1) as u32;
+        let row = self.row.saturating_sub(1);
+        match fault {
+            ItemFault::Input => BodyFault::InputFault,
+            ItemFault::Flaw(flaw) => placed(element, row, flaw),
+        }
+    }
+}
+
+// A refusal with its place.
+fn placed(element: u32, row: u64, flaw: Flaw) -> BodyFault
+    ensures { result ≡ fault_of element row flaw }
+{
+    match flaw {
+        Flaw::Short => BodyFault::Short { element, row },
+        Flaw::Number => BodyFault::Number { element, row },
+        Flaw::Range => BodyFault::Range { element, row },
+        Flaw::BadIndex { index } => BodyFault::BadIndex {
+            element,
+            row,
+            index,
+        },
+        Flaw::TooManyTris => BodyFault::TooManyTris { element, row },
+        Flaw::TooLong => BodyFault::TooLong { element, row },
+    }
 }
