@@ -97,3 +97,11 @@ pub same_refused : {B : Type 0} (f g : Items → B) (y : B) (old new : Option It
     → option_map f old ≡ option_map g new → ForSome new (λ n. g n ≡ y) → ForSome old (λ o. f o ≡ y)
 same_refused f g y old None is late o told = cc
 same_refused f g y old (Some n) is late o told = let e : f o ≡ g n = cc in e ∙ late n refl
+
+-- what a reading took that went on to its end
+pub bind_taken : {A B E : Type 0} (r : Result A E) (f : A → Result B E) (y : B) → (r >>= f) ≡ Ok y → (x : A) × (r ≡ Ok x) × (f x ≡ Ok y)
+bind_taken (Ok x) f y is = (x, refl, is)
+bind_taken (Err e) f y is = absurd (cc)
+
+pub ok_first : {A B E : Type 0} (x x' : A) (y y' : B) → ◌≡◌ {A = Result (A × B) E} (Ok (x, y)) (Ok (x', y')) → x ≡ x'
+ok_first {A} {B} {E} x x' y y' is = let e : ◌≡◌ {A = A × B} (x, y) (x', y') = cc in ap (λ (p : A × B). p.0) e

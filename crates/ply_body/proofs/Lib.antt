@@ -1,3 +1,4 @@
 pub mod Binds
 pub mod Fans
 pub mod Passing
+pub mod Coming

@@ -1,5 +1,5 @@
 -- Places in the rows of an element, and what the steps from one to the next say.
-use Rattle.std.specs.Prelude.{◌≡◌, ℕ, zero, suc, ◌+◌, ◌-◌, ◌^◌, ◌≤◌, ◌<◌, min, List, [], ◌∷◌, ◌++◌, length, take, drop, All, Option, Some, None, Result, Ok, Err}
+use Rattle.std.specs.Prelude.{◌≡◌, ◌≢◌, ◌⊎◌, ℕ, zero, suc, ◌+◌, ◌-◌, ◌^◌, ◌≤◌, ◌<◌, min, List, [], ◌∷◌, ◌++◌, length, take, drop, All, Option, Some, None, Result, Ok, Err}
 use Rattle.std.specs.Option.{option_map, ForSome, IfSome}
 use Rattle.tpz_io.specs.Causes.{Rose}
 use Rattle.tpz_base.specs.Texts.{Bytes, Face}
@@ -115,6 +115,21 @@ IsNear v c = (c.i < v) × (c.j < v) × (c.k < v)
 abbrev pub IsReach : Option ℕ → ℕ → Type 0
 IsReach None n = Unit {0}
 IsReach (Some k) n = k ≤ n
+
+-- the properties of a row with one list of indices
+pub record HasIndices (ps : List Property) : Type 0 where
+  pub before : List Property
+  pub indices : Property
+  pub behind : List Property
+  pub properties : ps ≡ before ++ indices ∷ behind
+  pub before_skipped : All IsSkipped before
+  pub behind_skipped : All IsSkipped behind
+  pub role : indices.role ≡ Indices
+  pub list : indices.count_kind ≢ None
+
+-- a row has at most one list of indices, and nothing else that is used
+abbrev pub IsRowLayout : List Property → Type 0
+IsRowLayout ps = All IsSkipped ps ⊎ HasIndices ps
 
 -- a place in a row of these properties that leads to no overflow
 pub record IsPlacedIn (v : ℕ) (ps : List Property) (p : Place) : Type 0 where
