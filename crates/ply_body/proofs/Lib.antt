@@ -2,3 +2,4 @@ pub mod Binds
 pub mod Fans
 pub mod Passing
 pub mod Coming
+pub mod Beginnings
