@@ -1,15 +1,24 @@
 -- Readings that follow one another.
-use Rattle.std.proofs.Common.{◌≡◌, ℕ, List, [], ◌∷◌, ◌++◌, refl, sym, ◌∙◌, ap, append_assoc}
+use Rattle.std.proofs.Common.{◌≡◌, ℕ, ◌≤◌, arith, List, [], ◌∷◌, ◌++◌, refl, sym, ◌∙◌, ap, append_assoc}
 use Rattle.std.specs.Prelude.{Result, Ok, Err}
 use Rattle.std.specs.Option.{option_map, ForSome}
 use Rattle.std.specs.declared.option.Option.{Option}
 use Rattle.std.specs.declared.option.Option.TheVariants.{None, Some}
-use Rattle.tpz_base.specs.Texts.{Face}
+use Rattle.tpz_io.specs.Causes.{Rose}
+use Rattle.tpz_base.specs.Texts.{Bytes, Face}
+use Rattle.ply_head.specs.declared.element.Property.{Property}
 use Rattle.ply_body.specs.declared.fault.Flaw.{Flaw}
+use Rattle.ply_body.specs.declared.fault.Flaw.TheVariants.{Short, Number, Range, BadIndex, TooManyTris, TooLong}
 use Rattle.ply_body.specs.declared.fault.BodyFault.{BodyFault}
-use Rattle.ply_body.specs.Items.{◌>>=◌, Items}
+use Rattle.ply_body.specs.declared.fault.BodyFault.TheVariants.{InputFault, WorkFault, WorkDamage}
+use Rattle.ply_body.specs.declared.fault.BodyFault.TheVariants as fault
+use Rattle.ply_body.specs.declared.item_reader.ItemFault.{ItemFault}
+use Rattle.ply_body.specs.declared.item_reader.ItemFault.TheVariants as item_faults
+use Rattle.ply_body.specs.declared.place.Place.{Place}
+use Rattle.ply_body.specs.Items.{◌>>=◌, Items, ItemPlace}
 use Rattle.ply_body.specs.Bodies.{placed, fault_of}
 use Rattle.ply_body.specs.Readings.{with_faces}
+use Rattle.ply_body.specs.Places.{item_fault, told_at, IsReason, Moves, Fails}
 
 pub bind_ok : {A B E : Type 0} (r : Result A E) (f : A → Result B E) (x : A) → r ≡ Ok x → (r >>= f) ≡ f x
 bind_ok r f x e = rw e refl
@@ -105,3 +114,67 @@ bind_taken (Err e) f y is = absurd (cc)
 
 pub ok_first : {A B E : Type 0} (x x' : A) (y y' : B) → ◌≡◌ {A = Result (A × B) E} (Ok (x, y)) (Ok (x', y')) → x ≡ x'
 ok_first {A} {B} {E} x x' y y' is = let e : ◌≡◌ {A = A × B} (x, y) (x', y') = cc in ap (λ (p : A × B). p.0) e
+
+-- a refusal of what is told, from the refusal of an item
+pub refused_told : {X : Type 0} (read : Items → Result X Flaw) (f : Items → Result (List Face) BodyFault) (old : Option Items) (flaw : Flaw) (y : Result (List Face) BodyFault)
+    → ForSome old (λ o. read o ≡ Err flaw) → ((o : Items) → read o ≡ Err flaw → f o ≡ y) → ForSome (option_map f old) (λ x. x ≡ y)
+refused_told read f None flaw y refused step x is = absurd (cc)
+refused_told read f (Some o) flaw y refused step x is = let e = step o (refused o refl) in cc
+
+pub taken_told : {X : Type 0} (read : Items → Result (X × Items) Flaw) (x : X) (f : Items → Result (List Face) BodyFault) (old new : Option Items) (y : Result (List Face) BodyFault)
+    → option_map read old ≡ option_map (λ (items : Items). Ok (x, items)) new → ((o n : Items) → read o ≡ Ok (x, n) → f o ≡ y) → ForSome (option_map f old) (λ z. z ≡ y)
+taken_told read x f None new y taken step z is = absurd (cc)
+taken_told read x f (Some o) None y taken step z is = absurd (cc)
+taken_told read x f (Some o) (Some n) y taken step z is = let r : read o ≡ Ok (x, n) = cc in let e = step o n r in cc
+
+-- Reasons of faults.
+pub flaw_reason : (e r : ℕ) (coming : Option (Result (List Face) BodyFault)) (before now : ℕ) (flaw : Flaw)
+    → ForSome coming (λ x. x ≡ Err (fault_of e r flaw)) → IsReason coming before now (fault_of e r flaw)
+flaw_reason e r coming before now Short h = h
+flaw_reason e r coming before now Number h = h
+flaw_reason e r coming before now Range h = h
+flaw_reason e r coming before now (BadIndex i) h = h
+flaw_reason e r coming before now TooManyTris h = h
+flaw_reason e r coming before now TooLong h = h
+
+pub item_reason : (e r : ℕ) (coming : Option (Result (List Face) BodyFault)) (before now : ℕ) (fault : ItemFault)
+    → ((flaw : Flaw) → fault ≡ item_faults.Flaw flaw → ForSome coming (λ x. x ≡ Err (fault_of e r flaw))) → (fault ≡ item_faults.Input → Rose before now)
+    → IsReason coming before now (item_fault e r fault)
+item_reason e r coming before now (item_faults.Flaw flaw) refused input = flaw_reason e r coming before now flaw (refused flaw refl)
+item_reason e r coming before now item_faults.Input refused input = input refl
+
+with_refused : (a b : Option (Result (List Face) BodyFault)) (fs : List Face) (f : BodyFault)
+    → a ≡ option_map (with_faces fs) b → ForSome b (λ x. x ≡ Err f) → ForSome a (λ x. x ≡ Err f)
+with_refused a None fs f is late x told = absurd (cc)
+with_refused a (Some y) fs f is late x told =
+    let h : y ≡ Err f = late y refl in
+    let e : with_faces fs y ≡ Err f = rw h refl in
+    cc
+
+-- the reason from a later place
+pub later_reason : (a b : Option (Result (List Face) BodyFault)) (fs : List Face) (before mid now : ℕ) (f : BodyFault)
+    → a ≡ option_map (with_faces fs) b → before ≤ mid → IsReason b mid now f → IsReason a before now f
+later_reason a b fs before mid now InputFault is le h = omega arith
+later_reason a b fs before mid now WorkFault is le h = h
+later_reason a b fs before mid now (WorkDamage offset) is le h = h
+later_reason a b fs before mid now (fault.Short e r) is le h = with_refused a b fs (fault.Short e r) is h
+later_reason a b fs before mid now (fault.Number e r) is le h = with_refused a b fs (fault.Number e r) is h
+later_reason a b fs before mid now (fault.Range e r) is le h = with_refused a b fs (fault.Range e r) is h
+later_reason a b fs before mid now (fault.BadIndex e r i) is le h = with_refused a b fs (fault.BadIndex e r i) is h
+later_reason a b fs before mid now (fault.Extent x y z) is le h = with_refused a b fs (fault.Extent x y z) is h
+later_reason a b fs before mid now (fault.TooManyTris e r) is le h = with_refused a b fs (fault.TooManyTris e r) is h
+later_reason a b fs before mid now (fault.TooLong e r) is le h = with_refused a b fs (fault.TooLong e r) is h
+
+-- Steps one after another.
+pub no_step : (v : ℕ) (ps : List Property) (p : Place) (items : ItemPlace) (left : Option Bytes) → Moves v ps p items left p items left []
+no_step v ps p items left = record { told = λ s es is. sym (told_none (told_at s ps es p items left)) }
+
+pub then_moves : {v : ℕ} {ps : List Property} {p p1 p2 : Place} {i i1 i2 : ItemPlace} {l l1 l2 : Option Bytes} {fs : List Face}
+    → Moves v ps p i l p1 i1 l1 [] → Moves v ps p1 i1 l1 p2 i2 l2 fs → Moves v ps p i l p2 i2 l2 fs
+then_moves {v} {ps} {p} {p1} {p2} {i} {i1} {i2} {l} {l1} {l2} {fs} a b =
+    record { told = λ s es is. told_both [] fs _ _ _ (a.told s es is) (b.told s es is) }
+
+pub then_fails : {v : ℕ} {ps : List Property} {p p1 : Place} {i i1 : ItemPlace} {l l1 : Option Bytes} {fs : List Face} {before mid now : ℕ} {f : BodyFault}
+    → Moves v ps p i l p1 i1 l1 fs → before ≤ mid → Fails v ps p1 i1 l1 mid now f → Fails v ps p i l before now f
+then_fails {fs = fs} {before = before} {mid = mid} {now = now} {f = f} a le b =
+    record { reason = λ s es is. later_reason _ _ fs before mid now f (a.told s es is) le (b.reason s es is) }

@@ -1,10 +1,10 @@
 -- What is read of a row beside its list of indices.
-use Rattle.std.proofs.Common.{◌≡◌, ℕ, zero, suc, ◌+◌, ◌-◌, ◌<◌, ◌≤◌, List, [], ◌∷◌, ◌++◌, length, get_or, drop, refl, sym, ◌∙◌, ap, arith}
+use Rattle.std.proofs.Common.{◌≡◌, ◌⊎◌, inl, inr, ℕ, zero, suc, ◌+◌, ◌-◌, ◌<◌, ◌≤◌, List, [], ◌∷◌, ◌++◌, length, get_or, drop, refl, sym, ◌∙◌, ap, arith}
 use Rattle.std.specs.Prelude.{All, Result, Ok, Err}
 use Rattle.std.specs.declared.option.Option.{Option}
 use Rattle.std.specs.declared.option.Option.TheVariants.{None, Some}
 use Rattle.std.proofs.lemmas.List.{drop_more}
-use Rattle.std.proofs.lemmas.List.Elements.{All-head, All-tail}
+use Rattle.std.proofs.lemmas.List.Elements.{All-head, All-tail, All-drop}
 use Rattle.ply_head.specs.declared.element.Kind.{Kind}
 use Rattle.ply_head.specs.declared.element.Kind.TheVariants.{I8}
 use Rattle.ply_head.specs.declared.element.Role.{Role}
@@ -14,7 +14,7 @@ use Rattle.ply_head.specs.Heads.{IsSkipped}
 use Rattle.ply_body.specs.declared.fault.Flaw.{Flaw}
 use Rattle.ply_body.specs.Items.{◌>>=◌, Items, item, item_as, count_of, skipped}
 use Rattle.ply_body.specs.Bodies.{Setting, RowItems, nothing_used, scalar, list_of, corners, with_property, with_properties}
-use Rattle.ply_body.specs.Places.{pass_one, passed, indices_kind, front_by, front_of, row_list, RowList}
+use Rattle.ply_body.specs.Places.{pass_one, passed, indices_kind, front_by, front_of, row_list, RowList, IsRowLayout, HasIndices}
 use Rattle.ply_body.proofs.Binds.{bind_ok, bind_err, bind_assoc, bind_same}
 
 -- what stands for a property where there is none
@@ -71,3 +71,25 @@ front_refused_at_list ps i k x flaw h is e = rw (drop_more ps i no_property h, �
 pub front_refused_before : (ps : List Property) (i : ℕ) (x : Items) (flaw : Flaw) → i < length ps → None ≡ indices_kind (get_or ps i no_property)
     → pass_one (get_or ps i no_property) x ≡ Err flaw → front_of (drop i ps) x ≡ Err flaw
 front_refused_before ps i x flaw h is e = rw (drop_more ps i no_property h, ← is, e) refl
+
+no_list : (p : Property) (k : Kind) → IsSkipped p → Some k ≡ indices_kind p → ⊥
+no_list p k skip is = let e : indices_kind p ≡ None = rw skip refl in cc
+
+behind_at : (before behind : List Property) (ix : Property) (i : ℕ) (k : Kind) → All IsSkipped before → All IsSkipped behind
+    → Some k ≡ indices_kind (get_or (before ++ ix ∷ behind) i no_property) → All IsSkipped (drop (i + 1) (before ++ ix ∷ behind))
+behind_at [] behind ix zero k here there is = there
+behind_at [] behind ix (suc i) k here there is = let e : suc i + 1 ≡ suc (suc i) = omega arith in rw e (All-drop IsSkipped (suc i) behind there)
+behind_at (b ∷ before) behind ix zero k here there is = absurd (no_list b k (All-head IsSkipped b before here) is)
+behind_at (b ∷ before) behind ix (suc i) k here there is =
+    let e : suc i + 1 ≡ suc (i + 1) = omega arith in rw e (behind_at before behind ix i k (All-tail IsSkipped b before here) there is)
+
+-- Behind the list of indices nothing is used,
+pub behind_list : (ps : List Property) (i : ℕ) (k : Kind) → IsRowLayout ps → i < length ps → Some k ≡ indices_kind (get_or ps i no_property) → All IsSkipped (drop (i + 1) ps)
+behind_list ps i k (inl skip) h is = absurd (no_list (get_or ps i no_property) k (skip i no_property h) is)
+behind_list ps i k (inr it) h is =
+    let is' : Some k ≡ indices_kind (get_or (it.before ++ it.indices ∷ it.behind) i no_property) = is ∙ ap (λ (qs : List Property). indices_kind (get_or qs i no_property)) it.properties in
+    rw it.properties (behind_at it.before it.behind it.indices i k it.before_skipped it.behind_skipped is')
+
+-- and where nothing is used there is none.
+pub list_used : (ps : List Property) (i : ℕ) (k : Kind) → All IsSkipped ps → i < length ps → Some k ≡ indices_kind (get_or ps i no_property) → ⊥
+list_used ps i k skip h is = no_list (get_or ps i no_property) k (skip i no_property h) is

@@ -131,15 +131,21 @@ pub record HasIndices (ps : List Property) : Type 0 where
 abbrev pub IsRowLayout : List Property → Type 0
 IsRowLayout ps = All IsSkipped ps ⊎ HasIndices ps
 
--- a place in a row of these properties that leads to no overflow
-pub record IsPlacedIn (v : ℕ) (ps : List Property) (p : Place) : Type 0 where
+-- counts at a place that lead to no overflow
+pub record IsCounted (p : Place) : Type 0 where
   pub next : p.next ≤ 64
-  pub behind : All IsSkipped (rest_of p.behind ps)
-  pub reach : IsReach p.behind (length ps)
   pub rows : p.row + p.left ≤ 2147483648
   pub corners : p.polygon.taken + p.polygon.left < 9223372036854775808
   pub few : p.formed + fan_count p.polygon.taken ≤ 2147483648
-  pub near : 0 < p.polygon.taken → (p.polygon.first < v) × (p.polygon.last < v)
+
+-- the corners that were taken are below the number of vertices
+abbrev pub HasNearCorners : ℕ → Place → Type 0
+HasNearCorners v p = 0 < p.polygon.taken → (p.polygon.first < v) × (p.polygon.last < v)
+
+-- what is left of the row isn't used
+pub record IsBehind (ps : List Property) (p : Place) : Type 0 where
+  pub skipped : All IsSkipped (rest_of p.behind ps)
+  pub reach : IsReach p.behind (length ps)
 
 -- a row was read to its end
 pub record IsEnded (p : Place) : Type 0 where
@@ -153,19 +159,18 @@ IsReason coming before now WorkFault = ⊥
 IsReason coming before now (WorkDamage offset) = ⊥
 IsReason coming before now f = ForSome coming (λ r. r ≡ Err f)
 
--- From the old place these faces come, and then those that come from the new one.
-abbrev pub Moves : ℕ → List Property → Place → ItemPlace → Option Bytes → Place → ItemPlace → Option Bytes → List Face → Type 0
-Moves v ps p items told p' items' told' faces = (s : Setting) (es : List Element) → s.vertices ≡ v
-    → told_at s ps es p items told ≡ option_map (with_faces faces) (told_at s ps es p' items' told')
+-- From the old place in an element these faces come, and then those that come from the new one.
+pub record Moves (v : ℕ) (ps : List Property) (p : Place) (items : ItemPlace) (left : Option Bytes) (p' : Place) (items' : ItemPlace) (left' : Option Bytes) (faces : List Face) : Type 0 where
+  pub told : (s : Setting) (es : List Element) → s.vertices ≡ v → told_at s ps es p items left ≡ option_map (with_faces faces) (told_at s ps es p' items' left')
 
--- A step that ends with a fault has its reason.
-abbrev pub Fails : ℕ → List Property → Place → ItemPlace → Option Bytes → ℕ → ℕ → BodyFault → Type 0
-Fails v ps p items told before now f = (s : Setting) (es : List Element) → s.vertices ≡ v → IsReason (told_at s ps es p items told) before now f
+-- A step from a place in an element ends with a fault.
+pub record Fails (v : ℕ) (ps : List Property) (p : Place) (items : ItemPlace) (left : Option Bytes) (before now : ℕ) (f : BodyFault) : Type 0 where
+  pub reason : (s : Setting) (es : List Element) → s.vertices ≡ v → IsReason (told_at s ps es p items left) before now f
 
--- A step to a new place, with a triangle or without.
-pub record Goes (v : ℕ) (ps : List Property) (p : Place) (items : ItemPlace) (told : Option Bytes) (p' : Place) (items' : ItemPlace) (told' : Option Bytes) (found : Option Corners) : Type 0 where
-  pub moves : Moves v ps p items told p' items' told' (faces_of found)
-  pub placed : IsPlacedIn v ps p'
+-- A step to a new place finds a triangle or none.
+pub record Goes (v : ℕ) (p p' : Place) (found : Option Corners) : Type 0 where
+  pub counted : IsCounted p'
+  pub corners : HasNearCorners v p'
   pub tally : tally p' ≡ tally p + length (faces_of found)
   pub near : IfSome found (IsNear v)
   pub next : p'.next ≡ p.next

@@ -1,12 +1,14 @@
 // A place in the rows of an element, and the steps from one to the next.
-ghost use Rattle.std.specs.Prelude.{◌≡◌, ◌⊎◌, ◌≤◌, ◌<◌, ◌+◌, ◌-◌, ◌^◌, ◌∷◌, ◌++◌, [], ℕ, List, length, Err, Ok, Some, None, IfOk, IfErr, IfSome, OnOk, IsErrOf};
+ghost use Rattle.std.specs.Prelude.{All, ◌≡◌, ◌⊎◌, ◌≤◌, ◌<◌, ◌+◌, ◌-◌, ◌^◌, ◌∷◌, ◌++◌, [], ℕ, List, length, Err, Ok, Some, None, IfOk, IfErr, IfSome, OnOk, IsErrOf};
 ghost use Rattle.std.specs.Option.{option_map};
 ghost use Rattle.tpz_io.specs.Causes.{Rose};
 ghost use Rattle.ply_head.specs.declared.element.Element.{Element};
+ghost use Rattle.ply_head.specs.declared.element.Property.{Property};
+ghost use Rattle.ply_head.specs.Heads.{IsSkipped};
 ghost use Rattle.ply_body.specs.declared.fault.Flaw.{Flaw};
 ghost use Rattle.ply_body.specs.Items.{count_of, items_told, item_as, Refuses, Takes};
 ghost use Rattle.ply_body.specs.Bodies.{fan, fan_count, fault_of, is_too_many as has_too_many, row_count as rows_of};
-ghost use Rattle.ply_body.specs.Places.{faces_of, front_of, pass_one, passed, indices_kind, item_fault, front_read, tally, polygon_front, rest_of, Fails, Goes, IsPlacedIn, IsEnded, IsNear, IsReach};
+ghost use Rattle.ply_body.specs.Places.{faces_of, front_of, pass_one, passed, indices_kind, item_fault, front_read, tally, polygon_front, rest_of, Fails, Goes, HasNearCorners, IsBehind, IsCounted, IsEnded, IsRowLayout, Moves, IsNear, IsReach};
 
 use crate::fault::{BodyFault, Flaw};
 use crate::item_reader::{ItemFault, ItemReader};
@@ -118,8 +120,11 @@ fn pass_all<I: Source>(items: &mut ItemReader, src: &mut I, properties: &[Proper
 
 // Takes what stands in a row up to the count of its list of indices.
 fn read_front<I: Source>(items: &mut ItemReader, src: &mut I, properties: &[Property]) -> Result<Front, ItemFault>
+    requires { IsRowLayout properties.now }
     ensures taken { IfOk result (λ front. Takes (front_of properties.now) (items_told items.old (I.left src.old)) (front_read front properties.now) (items_told items.new (I.left src.new))) }
     ensures fits { IfOk result (λ front. (front.count < 9223372036854775808) × IsReach front.behind (length properties.now)) }
+    ensures behind { IfOk result (λ front. All IsSkipped (rest_of front.behind properties.now)) }
+    ensures plain { IfOk result (λ front. All IsSkipped properties.now → front.count ≡ 0) }
     ensures refused { (flaw : Flaw) → result ≡ Err (ItemFault.Flaw flaw) → Refuses (front_of properties.now) (items_told items.old (I.left src.old)) flaw }
     ensures input { IsErrOf result ItemFault.Input → Rose (I.faults src.old) (I.faults src.new) }
     ensures later { I.faults src.old ≤ I.faults src.new }
@@ -217,6 +222,113 @@ impl Place {
         match fault {
             ItemFault::Input => BodyFault::InputFault,
             ItemFault::Flaw(flaw) => placed(element, row, flaw),
+        }
+    }
+
+    // Takes the next corner of the polygon.
+    fn next_corner<I: Source>(&mut self, items: &mut ItemReader, src: &mut I, vertices: u64) -> Result<Option<Corners>, BodyFault>
+        requires left { 0 < self.old.polygon.left }
+        requires vertices { vertices ≤ 2147483648 }
+        requires counted { IsCounted self.old }
+        requires corners { HasNearCorners vertices self.old }
+        ensures moves { IfOk result (λ found. (ps : List Property) → Moves vertices ps self.old items.old (I.left src.old) self.new items.new (I.left src.new) (faces_of found)) }
+        ensures goes { IfOk result (λ found. Goes vertices self.old self.new found) }
+        ensures taken { IfOk result (λ found. self.old.polygon.left ≡ self.new.polygon.left + 1) }
+        ensures behind { IfOk result (λ found. self.new.behind ≡ self.old.behind) }
+        ensures left { IfOk result (λ found. self.new.left ≡ self.old.left) }
+        ensures failed { IfErr result (λ f. (ps : List Property) → Fails vertices ps self.old items.old (I.left src.old) (I.faults src.old) (I.faults src.new) f) }
+        ensures later { I.faults src.old ≤ I.faults src.new }
+    {
+        let corner = match items.index(src, self.polygon.kind, vertices) {
+            Ok(corner) => corner,
+            Err(fault) => return Err(self.fault(fault)),
+        };
+        if is_too_many(self.formed, self.polygon.taken) {
+            return Err(self.fault(ItemFault::Flaw(Flaw::TooManyTris)));
+        }
+        Ok(self.polygon.add(corner))
+    }
+
+    // Takes what is left of the row behind its polygon.
+    fn end_row<I: Source>(&mut self, items: &mut ItemReader, src: &mut I, properties: &[Property]) -> Result<(), BodyFault>
+        requires polygon { self.old.polygon.left ≡ 0 }
+        requires counted { IsCounted self.old }
+        requires behind { IsBehind properties.now self.old }
+        ensures moves { OnOk result ((v : ℕ) → Moves v properties.now self.old items.old (I.left src.old) self.new items.new (I.left src.new) []) }
+        ensures place { OnOk result (self.new ≡ record self.old { behind = None }) }
+        ensures failed { IfErr result (λ f. (v : ℕ) → Fails v properties.now self.old items.old (I.left src.old) (I.faults src.old) (I.faults src.new) f) }
+        ensures later { I.faults src.old ≤ I.faults src.new }
+    {
+        let behind = match self.behind {
+            Some(behind) => behind,
+            None => return Ok(()),
+        };
+        match pass_all(items, src, &properties[behind..]) {
+            Ok(()) => {
+                self.behind = None;
+                Ok(())
+            }
+            Err(fault) => Err(self.fault(fault)),
+        }
+    }
+
+    // Goes to the next row, and takes it up to its polygon.
+    fn begin_row<I: Source>(&mut self, items: &mut ItemReader, src: &mut I, properties: &[Property]) -> Result<(), BodyFault>
+        requires ended { IsEnded self.old }
+        requires left { 0 < self.old.left }
+        requires counted { IsCounted self.old }
+        requires layout { IsRowLayout properties.now }
+        ensures moves { OnOk result ((v : ℕ) → Moves v properties.now self.old items.old (I.left src.old) self.new items.new (I.left src.new) []) }
+        ensures counted { OnOk result (IsCounted self.new) }
+        ensures behind { OnOk result (IsBehind properties.now self.new) }
+        ensures taken { OnOk result (self.new.polygon.taken ≡ 0) }
+        ensures left { OnOk result (self.old.left ≡ self.new.left + 1) }
+        ensures tally { OnOk result (tally self.new ≡ tally self.old) }
+        ensures next { OnOk result (self.new.next ≡ self.old.next) }
+        ensures plain { OnOk result (All IsSkipped properties.now → self.new.polygon.left ≡ 0) }
+        ensures failed { IfErr result (λ f. (v : ℕ) → Fails v properties.now self.old items.old (I.left src.old) (I.faults src.old) (I.faults src.new) f) }
+        ensures later { I.faults src.old ≤ I.faults src.new }
+    {
+        self.formed += fan_size(self.polygon.taken);
+        self.polygon = Polygon::none();
+        self.row += 1;
+        self.left -= 1;
+        match read_front(items, src, properties) {
+            Ok(front) => {
+                self.polygon.kind = front.kind;
+                self.polygon.left = front.count;
+                self.behind = front.behind;
+                Ok(())
+            }
+            Err(fault) => Err(self.fault(fault)),
+        }
+    }
+
+    // The next triangle of the row at hand. Without one the row is taken to its end.
+    fn face_in_row<I: Source>(&mut self, items: &mut ItemReader, src: &mut I, properties: &[Property], vertices: u64) -> Result<Option<Corners>, BodyFault>
+        requires vertices { vertices ≤ 2147483648 }
+        requires counted { IsCounted self.old }
+        requires corners { HasNearCorners vertices self.old }
+        requires behind { IsBehind properties.now self.old }
+        ensures moves { IfOk result (λ found. Moves vertices properties.now self.old items.old (I.left src.old) self.new items.new (I.left src.new) (faces_of found)) }
+        ensures goes { IfOk result (λ found. Goes vertices self.old self.new found) }
+        ensures behind { IfOk result (λ found. IsBehind properties.now self.new) }
+        ensures left { IfOk result (λ found. self.new.left ≡ self.old.left) }
+        ensures ended { result ≡ Ok None → IsEnded self.new }
+        ensures plain { IfOk result (λ found. self.old.polygon.left ≡ 0 → found ≡ None) }
+        ensures failed { IfErr result (λ f. Fails vertices properties.now self.old items.old (I.left src.old) (I.faults src.old) (I.faults src.new) f) }
+        ensures later { I.faults src.old ≤ I.faults src.new }
+    {
+        'corners: while self.polygon.left > 0 {
+            match self.next_corner(items, src, vertices) {
+                Ok(Some(face)) => return Ok(Some(face)),
+                Ok(None) => {}
+                Err(fault) => return Err(fault),
+            }
+        }
+        match self.end_row(items, src, properties) {
+            Ok(()) => Ok(None),
+            Err(fault) => Err(fault),
         }
     }
 }
