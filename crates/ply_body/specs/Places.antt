@@ -9,7 +9,7 @@ use Rattle.ply_head.specs.declared.element.Role.{Role}
 use Rattle.ply_head.specs.declared.element.Role.TheVariants.{Indices, Skip}
 use Rattle.ply_head.specs.declared.element.Property.{Property}
 use Rattle.ply_head.specs.declared.element.Element.{Element}
-use Rattle.ply_head.specs.Heads.{IsSkipped}
+use Rattle.ply_head.specs.Heads.{IsSkipped, IsOther}
 use Rattle.ply_body.specs.declared.fault.Flaw.{Flaw}
 use Rattle.ply_body.specs.declared.fault.BodyFault.{BodyFault}
 use Rattle.ply_body.specs.declared.fault.BodyFault.TheVariants.{InputFault, WorkFault, WorkDamage}
@@ -20,8 +20,8 @@ use Rattle.ply_body.specs.declared.place.Polygon.{Polygon as CodePolygon}
 use Rattle.ply_body.specs.declared.place.Place.{Place}
 use Rattle.ply_body.specs.declared.place.Front.{Front}
 use Rattle.ply_body.specs.Items.{◌>>=◌, Items, ItemPlace, items_told, item_as, count_of, skipped}
-use Rattle.ply_body.specs.Bodies.{Setting, fan_count, fault_of}
-use Rattle.ply_body.specs.Readings.{Polygon, Cursor, front, coming, with_faces}
+use Rattle.ply_body.specs.Bodies.{Setting, fan_count, fault_of, row_count}
+use Rattle.ply_body.specs.Readings.{Polygon, Cursor, front, coming, with_faces, IsRest}
 
 -- the items behind those of a property that isn't used
 abbrev pub pass_one : Property → Items → Result Items Flaw
@@ -174,3 +174,58 @@ pub record Goes (v : ℕ) (p p' : Place) (found : Option Corners) : Type 0 where
   pub tally : tally p' ≡ tally p + length (faces_of found)
   pub near : IfSome found (IsNear v)
   pub next : p'.next ≡ p.next
+
+abbrev properties_at : List Element → List Property
+properties_at [] = []
+properties_at (e ∷ es) = e.properties
+
+-- the properties of the element before the one with this number
+abbrev pub current : ℕ → List Element → List Property
+current zero es = []
+current (suc n) es = properties_at (drop n es)
+
+abbrev pub cursor_of : Place → List Element → Cursor
+cursor_of p es = cursor_at p (current p.next es) (drop p.next es)
+
+-- the triangles to come from a place in the elements
+abbrev pub coming_of : Setting → List Element → Place → ItemPlace → Option Bytes → Option (Result (List Face) BodyFault)
+coming_of s es p items left = option_map (coming s (cursor_of p es)) (items_told items left)
+
+-- A place before the used face element: nothing was formed.
+pub record IsBefore (es : List Element) (p : Place) : Type 0 where
+  pub rest : IsRest (drop p.next es)
+  pub tally : tally p ≡ 0
+  pub polygon : p.polygon.left ≡ 0
+  pub plain : 0 < p.left → All IsSkipped (current p.next es)
+
+-- a place in the elements behind the used vertex element
+pub record IsPlaced (v : ℕ) (es : List Element) (p : Place) : Type 0 where
+  pub counted : IsCounted p
+  pub corners : HasNearCorners v p
+  pub behind : IsBehind (current p.next es) p
+  pub layout : 0 < p.left → IsRowLayout (current p.next es)
+  pub next : p.next ≤ length es
+  pub order : IsBefore es p ⊎ All IsOther (drop p.next es)
+
+-- From the old place in the elements these faces come, and then those that come from the new one.
+pub record Walks (v : ℕ) (es : List Element) (p : Place) (items : ItemPlace) (left : Option Bytes) (p' : Place) (items' : ItemPlace) (left' : Option Bytes) (faces : List Face) : Type 0 where
+  pub told : (s : Setting) → s.vertices ≡ v → coming_of s es p items left ≡ option_map (with_faces faces) (coming_of s es p' items' left')
+
+-- A step from a place in the elements ends with a fault.
+pub record WalkFails (v : ℕ) (es : List Element) (p : Place) (items : ItemPlace) (left : Option Bytes) (before now : ℕ) (f : BodyFault) : Type 0 where
+  pub reason : (s : Setting) → s.vertices ≡ v → IsReason (coming_of s es p items left) before now f
+
+-- No face comes from a place in the elements.
+pub record WalksOut (v : ℕ) (es : List Element) (p : Place) (items : ItemPlace) (left : Option Bytes) : Type 0 where
+  pub told : (s : Setting) → s.vertices ≡ v → ForSome (coming_of s es p items left) (λ r. r ≡ Ok [])
+
+-- the place at the beginning of an element
+abbrev pub begun : Place → Element → Place
+begun p e = record {
+  polygon = record { kind = U8; taken = 0; first = 0; last = 0; left = 0 };
+  behind = None;
+  row = 0;
+  left = row_count e;
+  formed = p.formed + fan_count p.polygon.taken;
+  next = p.next + 1;
+}

@@ -4,11 +4,11 @@ ghost use Rattle.std.specs.Option.{option_map};
 ghost use Rattle.tpz_io.specs.Causes.{Rose};
 ghost use Rattle.ply_head.specs.declared.element.Element.{Element};
 ghost use Rattle.ply_head.specs.declared.element.Property.{Property};
-ghost use Rattle.ply_head.specs.Heads.{IsSkipped};
+ghost use Rattle.ply_head.specs.Heads.{IsSkipped, IsSmall};
 ghost use Rattle.ply_body.specs.declared.fault.Flaw.{Flaw};
 ghost use Rattle.ply_body.specs.Items.{count_of, items_told, item_as, Refuses, Takes};
 ghost use Rattle.ply_body.specs.Bodies.{fan, fan_count, fault_of, is_too_many as has_too_many, row_count as rows_of};
-ghost use Rattle.ply_body.specs.Places.{faces_of, front_of, pass_one, passed, indices_kind, item_fault, front_read, tally, polygon_front, rest_of, Fails, Goes, HasNearCorners, IsBehind, IsCounted, IsEnded, IsRowLayout, Moves, IsNear, IsReach};
+ghost use Rattle.ply_body.specs.Places.{begun, current as properties_before, faces_of, front_of, pass_one, passed, indices_kind, item_fault, front_read, tally, polygon_front, rest_of, Fails, Goes, HasNearCorners, IsBehind, IsCounted, IsEnded, IsPlaced, IsRowLayout, Moves, Walks, WalkFails, WalksOut, IsNear, IsReach};
 
 use crate::fault::{BodyFault, Flaw};
 use crate::item_reader::{ItemFault, ItemReader};
@@ -331,6 +331,100 @@ impl Place {
             Err(fault) => Err(fault),
         }
     }
+
+    // The next triangle of the rows that are left of the element.
+    fn face_in_element<I: Source>(&mut self, items: &mut ItemReader, src: &mut I, properties: &[Property], vertices: u64) -> Result<Option<Corners>, BodyFault>
+        requires vertices { vertices ≤ 2147483648 }
+        requires counted { IsCounted self.old }
+        requires corners { HasNearCorners vertices self.old }
+        requires behind { IsBehind properties.now self.old }
+        requires layout { 0 < self.old.left → IsRowLayout properties.now }
+        ensures moves { IfOk result (λ found. Moves vertices properties.now self.old items.old (I.left src.old) self.new items.new (I.left src.new) (faces_of found)) }
+        ensures goes { IfOk result (λ found. Goes vertices self.old self.new found) }
+        ensures behind { IfOk result (λ found. IsBehind properties.now self.new) }
+        ensures left { IfOk result (λ found. self.new.left ≤ self.old.left) }
+        ensures ended { result ≡ Ok None → IsEnded self.new × (self.new.left ≡ 0) }
+        ensures plain { IfOk result (λ found. (0 < self.old.left → All IsSkipped properties.now) → self.old.polygon.left ≡ 0 → found ≡ None) }
+        ensures failed { IfErr result (λ f. Fails vertices properties.now self.old items.old (I.left src.old) (I.faults src.old) (I.faults src.new) f) }
+        ensures later { I.faults src.old ≤ I.faults src.new }
+    {
+        'rows: loop {
+            match self.face_in_row(items, src, properties, vertices) {
+                Ok(Some(face)) => return Ok(Some(face)),
+                Ok(None) => {}
+                Err(fault) => return Err(fault),
+            }
+            if self.left == 0 {
+                return Ok(None);
+            }
+            match self.begin_row(items, src, properties) {
+                Ok(()) => {}
+                Err(fault) => return Err(fault),
+            }
+        }
+    }
+
+    // Goes to the beginning of an element.
+    fn begin_element(&mut self, element: &Element)
+        requires counted { IsCounted self.old }
+        requires next { self.old.next < 64 }
+        ensures { self.new ≡ begun self.old element.now }
+    {
+        self.formed += fan_size(self.polygon.taken);
+        self.polygon = Polygon::none();
+        self.behind = None;
+        self.row = 0;
+        self.left = row_count(element);
+        self.next += 1;
+    }
+
+    /// The next triangle of the elements that are left.
+    pub fn next_face<I: Source>(&mut self, items: &mut ItemReader, src: &mut I, elements: &[Element], vertices: u64) -> Result<Option<Corners>, BodyFault>
+        requires vertices { vertices ≤ 2147483648 }
+        requires small { IsSmall elements.now }
+        requires placed { IsPlaced vertices elements.now self.old }
+        ensures walks { IfOk result (λ found. Walks vertices elements.now self.old items.old (I.left src.old) self.new items.new (I.left src.new) (faces_of found)) }
+        ensures placed { IfOk result (λ found. IsPlaced vertices elements.now self.new) }
+        ensures tally { IfOk result (λ found. tally self.new ≡ tally self.old + length (faces_of found)) }
+        ensures near { IfOk result (λ found. IfSome found (IsNear vertices)) }
+        ensures out { result ≡ Ok None → WalksOut vertices elements.now self.old items.old (I.left src.old) }
+        ensures failed { IfErr result (λ f. WalkFails vertices elements.now self.old items.old (I.left src.old) (I.faults src.old) (I.faults src.new) f) }
+        ensures later { I.faults src.old ≤ I.faults src.new }
+    {
+        'elements: loop {
+            let properties = current(elements, self.next);
+            match self.face_in_element(items, src, properties, vertices) {
+                Ok(Some(face)) => return Ok(Some(face)),
+                Ok(None) => {}
+                Err(fault) => return Err(fault),
+            }
+            if self.next == elements.len() {
+                return Ok(None);
+            }
+            self.begin_element(&elements[self.next]);
+        }
+    }
+}
+
+// How many rows of an element have items.
+fn row_count(element: &Element) -> u64
+    ensures { result ≡ rows_of element.now }
+{
+    if element.properties().len() == 0 {
+        return 0;
+    }
+    element.count()
+}
+
+// The properties of the element before the one with this number.
+fn current(elements: &[Element], next: usize) -> &[Property]
+    requires { next ≤ length elements.now }
+    ensures { result.now ≡ properties_before next elements.now }
+{
+    if next == 0 {
+        return &[];
+    }
+    elements[next - 1].properties()
 }
 
 // A refusal with its place.
