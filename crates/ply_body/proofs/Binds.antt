@@ -178,3 +178,9 @@ pub then_fails : {v : ℕ} {ps : List Property} {p p1 : Place} {i i1 : ItemPlace
     → Moves v ps p i l p1 i1 l1 fs → before ≤ mid → Fails v ps p1 i1 l1 mid now f → Fails v ps p i l before now f
 then_fails {fs = fs} {before = before} {mid = mid} {now = now} {f = f} a le b =
     record { reason = λ s es is. later_reason _ _ fs before mid now f (a.told s es is) le (b.reason s es is) }
+
+-- no step, where the same comes from each list of items
+pub map_same : (f g : Items → Result (List Face) BodyFault) (o : Option Items) → ((items : Items) → f items ≡ g items)
+    → option_map f o ≡ option_map (with_faces []) (option_map g o)
+map_same f g None same = refl
+map_same f g (Some items) same = ap Some (same items ∙ sym (with_none (g items)))

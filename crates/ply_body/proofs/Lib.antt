@@ -3,3 +3,4 @@ pub mod Fans
 pub mod Passing
 pub mod Coming
 pub mod Beginnings
+pub mod Walking
