@@ -229,3 +229,9 @@ begun p e = record {
   formed = p.formed + fan_count p.polygon.taken;
   next = p.next + 1;
 }
+
+-- Why a point isn't read back: a call of the blob failed, or the blob, which tells nothing, gave back another point.
+abbrev pub IsWorkReason : Option Bytes → ℕ → ℕ → BodyFault → Type 0
+IsWorkReason held before now WorkFault = Rose before now
+IsWorkReason held before now (WorkDamage offset) = held ≡ None
+IsWorkReason held before now f = ⊥

@@ -2,6 +2,7 @@
 #![tactic(auto)]
 
 mod faces;
+mod corners;
 mod fault;
 mod frame;
 mod item_reader;
