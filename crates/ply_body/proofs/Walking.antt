@@ -1,6 +1,6 @@
 -- Steps from element to element.
 use Rattle.std.proofs.Common.{◌≡◌, ◌⊎◌, inl, inr, ℕ, zero, suc, ◌+◌, ◌-◌, ◌<◌, ◌≤◌, List, [], ◌∷◌, ◌++◌, length, get_or, drop, refl, sym, ◌∙◌, ap, subst, arith, rules}
-use Rattle.std.proofs.lemmas.List.{drop_more, drop_all}
+use Rattle.std.proofs.lemmas.List.{append-nil, drop_more, drop_all}
 use Rattle.std.proofs.lemmas.List.Elements.{All-head, All-tail, All-nil}
 use Rattle.std.specs.Prelude.{All, Result, Ok, Err}
 use Rattle.std.specs.Option.{option_map, ForSome}
@@ -11,12 +11,14 @@ use Rattle.ply_head.specs.declared.element.Property.{Property}
 use Rattle.ply_head.specs.declared.element.Element.{Element}
 use Rattle.ply_head.specs.Heads.{IsSkipped, IsOther, IsFaceElement, IsSmall}
 use Rattle.ply_body.specs.declared.fault.BodyFault.{BodyFault}
+use Rattle.ply_body.specs.declared.fault.BodyFault.TheVariants.{InputFault, WorkFault, WorkDamage}
+use Rattle.ply_body.specs.declared.fault.BodyFault.TheVariants as fault
 use Rattle.ply_body.specs.declared.place.Corners.{Corners}
 use Rattle.ply_body.specs.declared.place.Place.{Place}
 use Rattle.ply_body.specs.Items.{Items, ItemPlace, items_told}
 use Rattle.ply_body.specs.Bodies.{Setting, fan_count, row_count}
 use Rattle.ply_body.specs.Readings.{coming, with_faces, IsRest}
-use Rattle.ply_body.specs.Places.{begun, coming_of, current, cursor_at, cursor_of, faces_of, polygon_of, tally, Fails, Goes, HasNearCorners, HasIndices, IsBefore, IsBehind, IsCounted, IsEnded, IsPlaced, IsReason, IsRowLayout, Moves, Walks, WalkFails, WalksOut}
+use Rattle.ply_body.specs.Places.{begun, coming_of, current, cursor_at, cursor_of, faces_of, polygon_of, tally, Fails, Goes, HasNearCorners, HasIndices, IsBefore, IsBehind, IsCounted, IsEnded, IsPlaced, IsReason, IsRowLayout, IsWorkReason, Moves, Walks, WalkEnds, WalkFails}
 use Rattle.ply_body.proofs.Beginnings.{begin_other, begin_face}
 use Rattle.ply_body.proofs.Binds.{map_same, later_reason, told_both, told_none}
 use Rattle.ply_body.proofs.Coming.{at_end}
@@ -153,7 +155,7 @@ module _ (v : ℕ) (es : List Element) (p : Place) (el : Element) (small : IsSma
       by_kind (inr k) = begins_face k.0 k.1 before.tally
 
 -- at the end no face comes
-pub walks_out : (v : ℕ) (es : List Element) (p : Place) (i : ItemPlace) (l : Option Bytes) → IsEnded p → p.left ≡ 0 → p.next ≡ length es → WalksOut v es p i l
+pub walks_out : (v : ℕ) (es : List Element) (p : Place) (i : ItemPlace) (l : Option Bytes) → IsEnded p → p.left ≡ 0 → p.next ≡ length es → WalkEnds v es p i l []
 walks_out v es p i l ended done at = record { told = λ s is. by_items s (items_told i l) } where
   by_items : (s : Setting) (o : Option Items) → ForSome (option_map (coming s (cursor_of p es)) o) (λ r. r ≡ Ok [])
   by_items s None r told = absurd (cc)
@@ -164,7 +166,7 @@ walks_out v es p i l ended done at = record { told = λ s is. by_items s (items_
 
 -- none from an earlier place either
 pub then_walks_out : {v : ℕ} {es : List Element} {p p1 : Place} {i i1 : ItemPlace} {l l1 : Option Bytes}
-    → Walks v es p i l p1 i1 l1 [] → WalksOut v es p1 i1 l1 → WalksOut v es p i l
+    → Walks v es p i l p1 i1 l1 [] → WalkEnds v es p1 i1 l1 [] → WalkEnds v es p i l []
 then_walks_out {p1 = p1} {i1 = i1} {l1 = l1} a b = record { told = λ s is. none_before _ (coming_of s _ p1 i1 l1) (a.told s is) (b.told s is) } where
   none_before : (x y : Option (Result (List Face) BodyFault)) → x ≡ option_map (with_faces []) y → ForSome y (λ r. r ≡ Ok []) → ForSome x (λ r. r ≡ Ok [])
   none_before x None e h r told = absurd (cc)
@@ -172,3 +174,30 @@ then_walks_out {p1 = p1} {i1 = i1} {l1 = l1} a b = record { told = λ s is. none
       let k : y ≡ Ok [] = h y refl in
       let k' : with_faces [] y ≡ Ok [] = rw k refl in
       cc
+
+pub both_walks : {v : ℕ} {es : List Element} {p p1 p2 : Place} {i i1 i2 : ItemPlace} {l l1 l2 : Option Bytes} {fs gs : List Face}
+    → Walks v es p i l p1 i1 l1 fs → Walks v es p1 i1 l1 p2 i2 l2 gs → Walks v es p i l p2 i2 l2 (fs ++ gs)
+both_walks {fs = fs} {gs = gs} a b = record { told = λ s is. told_both fs gs _ _ _ (a.told s is) (b.told s is) }
+
+-- the faces that were passed over, where no other comes
+pub walk_ends : {v : ℕ} {es : List Element} {p p1 : Place} {i i1 : ItemPlace} {l l1 : Option Bytes} {fs : List Face}
+    → Walks v es p i l p1 i1 l1 fs → WalkEnds v es p1 i1 l1 [] → WalkEnds v es p i l fs
+walk_ends {es = es} {p1 = p1} {i1 = i1} {l1 = l1} {fs = fs} a b = record { told = λ s is. ends _ (coming_of s es p1 i1 l1) (a.told s is) (b.told s is) } where
+  ends : (x y : Option (Result (List Face) BodyFault)) → x ≡ option_map (with_faces fs) y → ForSome y (λ r. r ≡ Ok []) → ForSome x (λ r. r ≡ Ok fs)
+  ends x None e h r told = absurd (cc)
+  ends x (Some y) e h r told =
+      let k : y ≡ Ok [] = h y refl in
+      let k' : with_faces fs y ≡ Ok fs = rw (k, append-nil fs) refl in
+      cc
+
+pub later_work : (held held' : Option Bytes) (before mid now : ℕ) (f : BodyFault) → held' ≡ held → before ≤ mid → IsWorkReason held' mid now f → IsWorkReason held before now f
+later_work held held' before mid now WorkFault same le h = omega arith
+later_work held held' before mid now (WorkDamage offset) same le h = sym same ∙ h
+later_work held held' before mid now InputFault same le h = h
+later_work held held' before mid now (fault.Short e r) same le h = h
+later_work held held' before mid now (fault.Number e r) same le h = h
+later_work held held' before mid now (fault.Range e r) same le h = h
+later_work held held' before mid now (fault.BadIndex e r i) same le h = h
+later_work held held' before mid now (fault.Extent x y z) same le h = h
+later_work held held' before mid now (fault.TooManyTris e r) same le h = h
+later_work held held' before mid now (fault.TooLong e r) same le h = h

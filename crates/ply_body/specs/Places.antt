@@ -1,7 +1,10 @@
 -- Places in the rows of an element, and what the steps from one to the next say.
-use Rattle.std.specs.Prelude.{◌≡◌, ◌≢◌, ◌⊎◌, ℕ, zero, suc, ◌+◌, ◌-◌, ◌^◌, ◌≤◌, ◌<◌, min, List, [], ◌∷◌, ◌++◌, length, take, drop, All, Option, Some, None, Result, Ok, Err}
+use Rattle.std.specs.Prelude.{false, ◌≡◌, ◌≢◌, ◌⊎◌, ℕ, zero, suc, ◌+◌, ◌-◌, ◌^◌, ◌≤◌, ◌<◌, min, List, [], ◌∷◌, ◌++◌, length, take, drop, All, Option, Some, None, Result, Ok, Err}
 use Rattle.std.specs.Option.{option_map, ForSome, IfSome}
 use Rattle.tpz_io.specs.Causes.{Rose}
+use Rattle.tpz_base.specs.declared.shape.Tri.{Tri}
+use Rattle.tpz_base.specs.Cubes.{Row}
+use Rattle.tpz_base.specs.Meshes.{is_whole}
 use Rattle.tpz_base.specs.Texts.{Bytes, Face}
 use Rattle.ply_head.specs.declared.element.Kind.{Kind}
 use Rattle.ply_head.specs.declared.element.Kind.TheVariants.{U8}
@@ -21,6 +24,9 @@ use Rattle.ply_body.specs.declared.place.Place.{Place}
 use Rattle.ply_body.specs.declared.place.Front.{Front}
 use Rattle.ply_body.specs.Items.{◌>>=◌, Items, ItemPlace, items_told, item_as, count_of, skipped}
 use Rattle.ply_body.specs.Bodies.{Setting, fan_count, fault_of, row_count}
+use Rattle.ply_body.specs.declared.frame.Frame.{Frame}
+use Rattle.ply_body.specs.Inputs.{points_of, triangle_at}
+use Rattle.ply_body.specs.Spots.{HoldsRows, IsFrameOf}
 use Rattle.ply_body.specs.Readings.{Polygon, Cursor, front, coming, with_faces, IsRest}
 
 -- the items behind those of a property that isn't used
@@ -215,9 +221,9 @@ pub record Walks (v : ℕ) (es : List Element) (p : Place) (items : ItemPlace) (
 pub record WalkFails (v : ℕ) (es : List Element) (p : Place) (items : ItemPlace) (left : Option Bytes) (before now : ℕ) (f : BodyFault) : Type 0 where
   pub reason : (s : Setting) → s.vertices ≡ v → IsReason (coming_of s es p items left) before now f
 
--- No face comes from a place in the elements.
-pub record WalksOut (v : ℕ) (es : List Element) (p : Place) (items : ItemPlace) (left : Option Bytes) : Type 0 where
-  pub told : (s : Setting) → s.vertices ≡ v → ForSome (coming_of s es p items left) (λ r. r ≡ Ok [])
+-- Just these faces come from a place in the elements.
+pub record WalkEnds (v : ℕ) (es : List Element) (p : Place) (items : ItemPlace) (left : Option Bytes) (faces : List Face) : Type 0 where
+  pub told : (s : Setting) → s.vertices ≡ v → ForSome (coming_of s es p items left) (λ r. r ≡ Ok faces)
 
 -- the place at the beginning of an element
 abbrev pub begun : Place → Element → Place
@@ -235,3 +241,11 @@ abbrev pub IsWorkReason : Option Bytes → ℕ → ℕ → BodyFault → Type 0
 IsWorkReason held before now WorkFault = Rose before now
 IsWorkReason held before now (WorkDamage offset) = held ≡ None
 IsWorkReason held before now f = ⊥
+
+-- Where the points are told, the triangles of these faces aren't whole.
+pub record AreBroken (frame : Frame) (held : Option Bytes) (faces : List Face) : Type 0 where
+  pub broken : ForSome held (λ bytes. (rows : List Row) → IsFrameOf frame rows → HoldsRows rows bytes → All (λ f. is_whole (triangle_at (points_of rows) f) ≡ false) faces)
+
+abbrev pub found_count : Option Tri → ℕ
+found_count None = 0
+found_count (Some t) = 1

@@ -9,6 +9,7 @@ mod item_reader;
 mod place;
 mod points;
 mod spots;
+mod walk;
 
 pub use faces::Faces;
 pub use fault::BodyFault;

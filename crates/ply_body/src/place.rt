@@ -8,7 +8,7 @@ ghost use Rattle.ply_head.specs.Heads.{IsSkipped, IsSmall};
 ghost use Rattle.ply_body.specs.declared.fault.Flaw.{Flaw};
 ghost use Rattle.ply_body.specs.Items.{count_of, items_told, item_as, Refuses, Takes};
 ghost use Rattle.ply_body.specs.Bodies.{fan, fan_count, fault_of, is_too_many as has_too_many, row_count as rows_of};
-ghost use Rattle.ply_body.specs.Places.{begun, current as properties_before, faces_of, front_of, pass_one, passed, indices_kind, item_fault, front_read, tally, polygon_front, rest_of, Fails, Goes, HasNearCorners, IsBehind, IsCounted, IsEnded, IsPlaced, IsRowLayout, Moves, Walks, WalkFails, WalksOut, IsNear, IsReach};
+ghost use Rattle.ply_body.specs.Places.{begun, current as properties_before, faces_of, front_of, pass_one, passed, indices_kind, item_fault, front_read, tally, polygon_front, rest_of, Fails, Goes, HasNearCorners, IsBehind, IsCounted, IsEnded, IsPlaced, IsRowLayout, Moves, Walks, WalkEnds, WalkFails, IsNear, IsReach};
 
 use crate::fault::{BodyFault, Flaw};
 use crate::item_reader::{ItemFault, ItemReader};
@@ -387,7 +387,7 @@ impl Place {
         ensures placed { IfOk result (λ found. IsPlaced vertices elements.now self.new) }
         ensures tally { IfOk result (λ found. tally self.new ≡ tally self.old + length (faces_of found)) }
         ensures near { IfOk result (λ found. IfSome found (IsNear vertices)) }
-        ensures out { result ≡ Ok None → WalksOut vertices elements.now self.old items.old (I.left src.old) }
+        ensures out { result ≡ Ok None → WalkEnds vertices elements.now self.old items.old (I.left src.old) [] }
         ensures failed { IfErr result (λ f. WalkFails vertices elements.now self.old items.old (I.left src.old) (I.faults src.old) (I.faults src.new) f) }
         ensures later { I.faults src.old ≤ I.faults src.new }
     {
