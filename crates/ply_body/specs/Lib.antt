@@ -4,3 +4,4 @@ pub mod Inputs
 pub mod Spots
 pub mod Readings
 pub mod Places
+pub mod Reader

@@ -225,6 +225,17 @@ pub record WalkFails (v : ℕ) (es : List Element) (p : Place) (items : ItemPlac
 pub record WalkEnds (v : ℕ) (es : List Element) (p : Place) (items : ItemPlace) (left : Option Bytes) (faces : List Face) : Type 0 where
   pub told : (s : Setting) → s.vertices ≡ v → ForSome (coming_of s es p items left) (λ r. r ≡ Ok faces)
 
+-- the place before the element with this number
+abbrev pub before : ℕ → Place
+before next = record {
+  polygon = record { kind = U8; taken = 0; first = 0; last = 0; left = 0 };
+  behind = None;
+  row = 0;
+  left = 0;
+  formed = 0;
+  next = next;
+}
+
 -- the place at the beginning of an element
 abbrev pub begun : Place → Element → Place
 begun p e = record {

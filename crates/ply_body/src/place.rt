@@ -8,7 +8,7 @@ ghost use Rattle.ply_head.specs.Heads.{IsSkipped, IsSmall};
 ghost use Rattle.ply_body.specs.declared.fault.Flaw.{Flaw};
 ghost use Rattle.ply_body.specs.Items.{count_of, items_told, item_as, Refuses, Takes};
 ghost use Rattle.ply_body.specs.Bodies.{fan, fan_count, fault_of, is_too_many as has_too_many, row_count as rows_of};
-ghost use Rattle.ply_body.specs.Places.{begun, current as properties_before, faces_of, front_of, pass_one, passed, indices_kind, item_fault, front_read, tally, polygon_front, rest_of, Fails, Goes, HasNearCorners, IsBehind, IsCounted, IsEnded, IsPlaced, IsRowLayout, Moves, Walks, WalkEnds, WalkFails, IsNear, IsReach};
+ghost use Rattle.ply_body.specs.Places.{before, begun, current as properties_before, faces_of, front_of, pass_one, passed, indices_kind, item_fault, front_read, tally, polygon_front, rest_of, Fails, Goes, HasNearCorners, IsBehind, IsCounted, IsEnded, IsPlaced, IsRowLayout, Moves, Walks, WalkEnds, WalkFails, IsNear, IsReach};
 
 use crate::fault::{BodyFault, Flaw};
 use crate::item_reader::{ItemFault, ItemReader};
@@ -212,6 +212,27 @@ impl Polygon {
 }
 
 impl Place {
+    /// Before the first element.
+    pub fn start() -> Place
+        ensures { result ≡ before 0 }
+    {
+        Place::before(0)
+    }
+
+    /// Before the element with this number, and behind those before it.
+    pub fn before(next: usize) -> Place
+        ensures { result ≡ before next }
+    {
+        Place {
+            polygon: Polygon::none(),
+            behind: None,
+            row: 0,
+            left: 0,
+            formed: 0,
+            next,
+        }
+    }
+
     // The place of a fault in the row at hand.
     fn fault(&self, fault: ItemFault) -> BodyFault
         requires { self.now.next ≤ 64 }
