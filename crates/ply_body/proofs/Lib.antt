@@ -4,3 +4,4 @@ pub mod Passing
 pub mod Coming
 pub mod Beginnings
 pub mod Walking
+pub mod Opening

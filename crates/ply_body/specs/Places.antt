@@ -257,6 +257,10 @@ IsWorkReason held before now f = ⊥
 pub record AreBroken (frame : Frame) (held : Option Bytes) (faces : List Face) : Type 0 where
   pub broken : ForSome held (λ bytes. (rows : List Row) → IsFrameOf frame rows → HoldsRows rows bytes → All (λ f. is_whole (triangle_at (points_of rows) f) ≡ false) faces)
 
+-- A read of a point ends with a fault.
+pub record WorkFails (held : Option Bytes) (before now : ℕ) (f : BodyFault) : Type 0 where
+  pub reason : IsWorkReason held before now f
+
 abbrev pub found_count : Option Tri → ℕ
 found_count None = 0
 found_count (Some t) = 1

@@ -8,7 +8,7 @@ ghost use Rattle.tpz_base.specs.Meshes.{is_whole};
 ghost use Rattle.tpz_base.specs.Texts.{Face};
 ghost use Rattle.ply_body.specs.declared.fault.BodyFault.{BodyFault};
 ghost use Rattle.ply_body.specs.declared.frame.Frame.{Frame};
-ghost use Rattle.ply_body.specs.Inputs.{points_of, triangle_at, vertex_count};
+ghost use Rattle.ply_body.specs.Inputs.{is_vertex_element, points_of, triangle_at, vertex_count};
 ghost use Rattle.ply_body.specs.Spots.{HoldsPoints, HoldsRows, IsFrameOf, IsSmallFrame, IsTriInCube};
 ghost use Rattle.ply_body.specs.Readings.{coming_told, input_told, opened, with_faces, with_spots, GivesFace, GivesNone, IsOpened, IsRefusal};
 
@@ -49,12 +49,19 @@ impl Model for Faces {
     ghost invariant = { IsReader };
 }
 
+// Whether it is the used vertex element.
+fn is_vertices(element: &Element) -> bool
+    ensures { result ≡ is_vertex_element element.now }
+{
+    matches!(element.used(), Used::Vertex)
+}
+
 // How many rows the used vertex element has.
 fn vertices_of(elements: &[Element]) -> u64
     ensures { result ≡ vertex_count elements.now }
 {
     'elements: for element in elements {
-        if element.used() == Used::Vertex {
+        if is_vertices(element) {
             return element.count();
         }
     }

@@ -8,7 +8,7 @@ ghost use Rattle.tpz_base.specs.Texts.{Face};
 ghost use Rattle.ply_head.specs.Heads.{IsSmall};
 ghost use Rattle.ply_body.specs.Inputs.{points_of, triangle_at};
 ghost use Rattle.ply_body.specs.Spots.{HoldsPoints, HoldsRows, IsFrameOf, IsSmallFrame, IsTriInCube};
-ghost use Rattle.ply_body.specs.Places.{found_count, tally, AreBroken, IsPlaced, IsWorkReason, Walks, WalkEnds, WalkFails};
+ghost use Rattle.ply_body.specs.Places.{found_count, tally, AreBroken, IsPlaced, Walks, WalkEnds, WalkFails, WorkFails};
 
 use crate::corners::tri_of;
 use crate::fault::BodyFault;
@@ -57,7 +57,7 @@ impl Walk {
         ensures whole { IfOk result (λ t. IfSome t (λ tri. IsTrue (is_whole tri))) }
         ensures cube { IfOk result (λ t. IfSome t (IsTriInCube frame.now.l)) }
         ensures failed { IfErr result (λ f. WalkFails self.old.vertices self.old.elements.items self.old.place self.old.items (I.left src.old) (I.faults src.old) (I.faults src.new) f
-            ⊎ IsWorkReason (B.held points.old) (B.faults points.old) (B.faults points.new) f) }
+            ⊎ WorkFails (B.held points.old) (B.faults points.old) (B.faults points.new) f) }
         ensures input_later { I.faults src.old ≤ I.faults src.new }
         ensures work_later { B.faults points.old ≤ B.faults points.new }
         ensures held { B.held points.new ≡ B.held points.old }
