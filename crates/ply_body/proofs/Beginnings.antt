@@ -1,17 +1,16 @@
 -- What is still to come from the beginning of an element.
-use Rattle.std.proofs.Common.{◌≡◌, ◌⊎◌, inl, inr, ℕ, zero, suc, ◌+◌, ◌-◌, ◌<◌, ◌≤◌, List, [], ◌∷◌, ◌++◌, length, refl, sym, ◌∙◌, ap, append_assoc, arith}
+use Rattle.std.proofs.Common.{◌≡◌, ℕ, zero, suc, ◌+◌, ◌-◌, List, [], ◌∷◌, ◌++◌, length, refl, sym, ◌∙◌, ap, arith}
 use Rattle.std.proofs.lemmas.List.{append-nil}
 use Rattle.std.proofs.lemmas.List.Elements.{All-head, All-tail}
 use Rattle.std.specs.Prelude.{All, Result, Ok, Err}
 use Rattle.tpz_base.specs.Texts.{Face}
-use Rattle.ply_head.specs.declared.element.Used.TheVariants.{Face as FaceUse, Other}
 use Rattle.ply_head.specs.declared.element.Property.{Property}
 use Rattle.ply_head.specs.declared.element.Element.{Element}
 use Rattle.ply_head.specs.Heads.{IsSkipped, IsOther, IsFaceElement}
 use Rattle.ply_body.specs.declared.fault.Flaw.{Flaw}
 use Rattle.ply_body.specs.declared.fault.BodyFault.{BodyFault}
 use Rattle.ply_body.specs.Items.{◌>>=◌, Items}
-use Rattle.ply_body.specs.Bodies.{Setting, RowItems, nothing_used, with_properties, placed, fan_count, rows, row_count, elements, with_rows, fan, fans, Input, no_input}
+use Rattle.ply_body.specs.Bodies.{Setting, RowItems, nothing_used, placed, fan_count, rows, row_count, elements, fans, Input, no_input}
 use Rattle.ply_body.specs.Readings.{Polygon, coming}
 use Rattle.ply_body.specs.Places.{passed}
 use Rattle.ply_body.proofs.Binds.{bind_assoc, bind_same, bind_taken, ok_first}

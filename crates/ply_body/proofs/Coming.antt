@@ -1,5 +1,5 @@
 -- What is still to come from a place in the elements, step by step.
-use Rattle.std.proofs.Common.{◌≡◌, ◌⊎◌, inl, inr, ℕ, zero, suc, ◌+◌, ◌-◌, ◌<◌, ◌≤◌, Bool, true, false, List, [], ◌∷◌, ◌++◌, length, refl, sym, ◌∙◌, ap, append_assoc, zero-add, add-zero, add-one, arith}
+use Rattle.std.proofs.Common.{◌≡◌, inl, inr, ℕ, zero, suc, ◌+◌, ◌-◌, true, false, List, [], ◌∷◌, ◌++◌, length, refl, sym, ◌∙◌, ap, append_assoc, arith}
 use Rattle.std.proofs.lemmas.List.{append-nil}
 use Rattle.std.proofs.lemmas.List.Elements.{All-nil}
 use Rattle.std.specs.Prelude.{All, Result, Ok, Err}
@@ -8,7 +8,7 @@ use Rattle.std.specs.declared.option.Option.TheVariants.{None, Some}
 use Rattle.tpz_base.specs.Texts.{Face}
 use Rattle.ply_head.specs.declared.element.Kind.{Kind}
 use Rattle.ply_head.specs.declared.element.Kind.TheVariants.{U8}
-use Rattle.ply_head.specs.declared.element.Role.TheVariants.{Skip, Indices}
+use Rattle.ply_head.specs.declared.element.Role.TheVariants.{Indices}
 use Rattle.ply_head.specs.declared.element.Property.{Property}
 use Rattle.ply_head.specs.declared.element.Element.{Element}
 use Rattle.ply_head.specs.Heads.{IsSkipped}
@@ -16,10 +16,10 @@ use Rattle.ply_body.specs.declared.fault.Flaw.{Flaw}
 use Rattle.ply_body.specs.declared.fault.Flaw.TheVariants.{TooManyTris}
 use Rattle.ply_body.specs.declared.fault.BodyFault.{BodyFault}
 use Rattle.ply_body.specs.Items.{◌>>=◌, unless, Items, item_as, index_of, count_of}
-use Rattle.ply_body.specs.Bodies.{Setting, RowItems, nothing_used, is_too_many, corners, list_of, with_property, with_properties, placed, fault_of, fan_count, rows, elements, fan, fans, no_input}
+use Rattle.ply_body.specs.Bodies.{Setting, RowItems, nothing_used, is_too_many, corners, list_of, with_properties, placed, fault_of, fan_count, rows, elements, fan, fans, no_input}
 use Rattle.ply_body.specs.Readings.{Polygon, Cursor, front, coming, with_faces}
-use Rattle.ply_body.specs.Places.{passed, pass_one, front_of, row_list, RowList, HasIndices, IsRowLayout}
-use Rattle.ply_body.proofs.Binds.{bind_ok, bind_err, bind_assoc, bind_same, bind_taken, ok_first, placed_bind, with_bind}
+use Rattle.ply_body.specs.Places.{passed, front_of, row_list, RowList, IsRowLayout}
+use Rattle.ply_body.proofs.Binds.{bind_assoc, bind_same, bind_taken, ok_first, with_bind}
 use Rattle.ply_body.proofs.Fans.{no_fan}
 use Rattle.ply_body.proofs.Passing.{skips_all, both_properties, front_behind}
 

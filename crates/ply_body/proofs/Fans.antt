@@ -1,9 +1,7 @@
 -- The fan of a polygon, corner by corner.
-use Rattle.std.proofs.Common.{◌≡◌, ℕ, zero, suc, ◌+◌, ◌-◌, ◌<◌, ◌≤◌, List, [], ◌∷◌, ◌++◌, length, refl, sym, ◌∙◌, ap, arith}
-use Rattle.std.specs.Prelude.{min, take, Result, Ok, Err}
-use Rattle.tpz_base.specs.Texts.{Face}
-use Rattle.ply_head.specs.declared.element.Kind.{Kind}
-use Rattle.ply_body.specs.Bodies.{fan, fan_count}
+use Rattle.std.proofs.Common.{◌≡◌, ℕ, zero, suc, ◌+◌, List, [], ◌∷◌, ◌++◌, refl, arith}
+use Rattle.std.specs.Prelude.{min, take}
+use Rattle.ply_body.specs.Bodies.{fan}
 use Rattle.ply_body.specs.Readings.{Polygon, front}
 
 -- a polygon of at most two corners forms no triangle

@@ -1,9 +1,9 @@
 -- A reader that was opened, and one that can read on.
-use Rattle.std.proofs.Common.{◌≡◌, ◌≢◌, ◌⊎◌, inl, inr, ℕ, ◌+◌, ◌≤◌, ◌<◌, List, [], ◌∷◌, ◌++◌, length, drop, refl, sym, ◌∙◌, ap, arith}
+use Rattle.std.proofs.Common.{◌≡◌, ◌≢◌, ◌⊎◌, inl, inr, ℕ, ◌≤◌, ◌<◌, List, [], ◌∷◌, ◌++◌, length, drop, refl, sym, ◌∙◌, ap, arith}
 use Rattle.std.proofs.lemmas.Bool.{cases_lt}
 use Rattle.std.proofs.lemmas.List.{drop_all}
 use Rattle.std.proofs.lemmas.List.Elements.{All-nil}
-use Rattle.std.specs.Prelude.{Result, Ok, Err}
+use Rattle.std.specs.Prelude.{Result, Err}
 use Rattle.std.specs.Option.{option_map, ForSome}
 use Rattle.std.specs.declared.option.Option.{Option}
 use Rattle.std.specs.declared.option.Option.TheVariants.{None, Some}
@@ -11,18 +11,18 @@ use Rattle.tpz_io.specs.Causes.{Rose}
 use Rattle.tpz_base.specs.Cubes.{Row}
 use Rattle.tpz_base.specs.Texts.{Bytes, Face}
 use Rattle.ply_head.specs.declared.element.Element.{Element}
-use Rattle.ply_head.specs.Heads.{HeadState, IsSkipped, IsSmall}
+use Rattle.ply_head.specs.Heads.{IsSkipped, IsSmall}
 use Rattle.ply_body.specs.declared.fault.BodyFault.{BodyFault}
 use Rattle.ply_body.specs.declared.fault.BodyFault.TheVariants.{InputFault, WorkFault, WorkDamage}
 use Rattle.ply_body.specs.declared.fault.BodyFault.TheVariants as fault
 use Rattle.ply_body.specs.declared.faces.Faces.TheInside.{Inside}
 use Rattle.ply_body.specs.declared.frame.Frame.{Frame}
 use Rattle.ply_body.specs.declared.place.Place.{Place}
-use Rattle.ply_body.specs.Items.{Items, ItemPlace, items_told}
+use Rattle.ply_body.specs.Items.{Items, ItemPlace}
 use Rattle.ply_body.specs.Bodies.{Setting, Input, elements, no_input}
 use Rattle.ply_body.specs.Inputs.{setting_of, vertex_count}
-use Rattle.ply_body.specs.Readings.{Reading, coming, coming_told, faces_from, input_told, opened, with_faces, with_spots, IsOpened, IsRefusal, IsRest}
-use Rattle.ply_body.specs.Places.{before, coming_of, cursor_of, tally, IsBefore, IsPlaced, IsReason, IsWorkReason, Walks, WalkFails, WorkFails}
+use Rattle.ply_body.specs.Readings.{Reading, coming, coming_told, faces_from, opened, with_faces, with_spots, IsOpened, IsRefusal, IsRest}
+use Rattle.ply_body.specs.Places.{before, coming_of, cursor_of, IsPlaced, IsReason, IsWorkReason, Walks, WalkFails, WorkFails}
 use Rattle.ply_body.specs.Reader.{reading_of, IsReader, IsReady}
 
 -- what an opened reader is like

@@ -1,21 +1,20 @@
 -- What is read of a row beside its list of indices.
-use Rattle.std.proofs.Common.{◌≡◌, ◌⊎◌, inl, inr, ℕ, zero, suc, ◌+◌, ◌-◌, ◌<◌, ◌≤◌, List, [], ◌∷◌, ◌++◌, length, get_or, drop, refl, sym, ◌∙◌, ap, arith}
-use Rattle.std.specs.Prelude.{All, Result, Ok, Err}
+use Rattle.std.proofs.Common.{◌≡◌, inl, inr, ℕ, zero, suc, ◌+◌, ◌<◌, List, [], ◌∷◌, ◌++◌, length, get_or, drop, refl, sym, ◌∙◌, ap, arith}
+use Rattle.std.specs.Prelude.{All, Ok, Err}
 use Rattle.std.specs.declared.option.Option.{Option}
 use Rattle.std.specs.declared.option.Option.TheVariants.{None, Some}
 use Rattle.std.proofs.lemmas.List.{drop_more}
 use Rattle.std.proofs.lemmas.List.Elements.{All-head, All-tail, All-drop}
 use Rattle.ply_head.specs.declared.element.Kind.{Kind}
 use Rattle.ply_head.specs.declared.element.Kind.TheVariants.{I8}
-use Rattle.ply_head.specs.declared.element.Role.{Role}
-use Rattle.ply_head.specs.declared.element.Role.TheVariants.{X, Skip, Indices}
+use Rattle.ply_head.specs.declared.element.Role.TheVariants.{X}
 use Rattle.ply_head.specs.declared.element.Property.{Property}
 use Rattle.ply_head.specs.Heads.{IsSkipped}
 use Rattle.ply_body.specs.declared.fault.Flaw.{Flaw}
 use Rattle.ply_body.specs.Items.{◌>>=◌, Items, item, item_as, count_of, skipped}
-use Rattle.ply_body.specs.Bodies.{Setting, RowItems, nothing_used, scalar, list_of, corners, with_property, with_properties}
-use Rattle.ply_body.specs.Places.{pass_one, passed, indices_kind, front_by, front_of, row_list, RowList, IsRowLayout, HasIndices}
-use Rattle.ply_body.proofs.Binds.{bind_ok, bind_err, bind_assoc, bind_same}
+use Rattle.ply_body.specs.Bodies.{Setting, RowItems, with_property, with_properties}
+use Rattle.ply_body.specs.Places.{pass_one, passed, indices_kind, front_of, IsRowLayout}
+use Rattle.ply_body.proofs.Binds.{bind_assoc, bind_same}
 
 -- what stands for a property where there is none
 abbrev pub no_property : Property

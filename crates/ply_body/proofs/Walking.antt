@@ -1,13 +1,12 @@
 -- Steps from element to element.
-use Rattle.std.proofs.Common.{◌≡◌, ◌⊎◌, inl, inr, ℕ, zero, suc, ◌+◌, ◌-◌, ◌<◌, ◌≤◌, List, [], ◌∷◌, ◌++◌, length, get_or, drop, refl, sym, ◌∙◌, ap, subst, arith, rules}
+use Rattle.std.proofs.Common.{◌≡◌, ◌⊎◌, inl, inr, ℕ, suc, ◌+◌, ◌<◌, ◌≤◌, List, [], ◌∷◌, ◌++◌, length, get_or, drop, refl, sym, ◌∙◌, ap, subst, arith}
 use Rattle.std.proofs.lemmas.List.{append-nil, drop_more, drop_all}
 use Rattle.std.proofs.lemmas.List.Elements.{All-head, All-tail, All-nil}
-use Rattle.std.specs.Prelude.{All, Result, Ok, Err}
+use Rattle.std.specs.Prelude.{All, Result, Ok}
 use Rattle.std.specs.Option.{option_map, ForSome}
 use Rattle.std.specs.declared.option.Option.{Option}
 use Rattle.std.specs.declared.option.Option.TheVariants.{None, Some}
 use Rattle.tpz_base.specs.Texts.{Bytes, Face}
-use Rattle.ply_head.specs.declared.element.Property.{Property}
 use Rattle.ply_head.specs.declared.element.Element.{Element}
 use Rattle.ply_head.specs.Heads.{IsSkipped, IsOther, IsFaceElement, IsSmall}
 use Rattle.ply_body.specs.declared.fault.BodyFault.{BodyFault}
@@ -16,9 +15,9 @@ use Rattle.ply_body.specs.declared.fault.BodyFault.TheVariants as fault
 use Rattle.ply_body.specs.declared.place.Corners.{Corners}
 use Rattle.ply_body.specs.declared.place.Place.{Place}
 use Rattle.ply_body.specs.Items.{Items, ItemPlace, items_told}
-use Rattle.ply_body.specs.Bodies.{Setting, fan_count, row_count}
+use Rattle.ply_body.specs.Bodies.{Setting, row_count}
 use Rattle.ply_body.specs.Readings.{coming, with_faces, IsRest}
-use Rattle.ply_body.specs.Places.{begun, coming_of, current, cursor_at, cursor_of, faces_of, polygon_of, tally, Fails, Goes, HasNearCorners, HasIndices, IsBefore, IsBehind, IsCounted, IsEnded, IsPlaced, IsReason, IsRowLayout, IsWorkReason, Moves, Walks, WalkEnds, WalkFails}
+use Rattle.ply_body.specs.Places.{begun, coming_of, current, cursor_at, cursor_of, faces_of, polygon_of, tally, Fails, Goes, IsBefore, IsBehind, IsCounted, IsEnded, IsPlaced, IsRowLayout, IsWorkReason, Moves, Walks, WalkEnds, WalkFails}
 use Rattle.ply_body.proofs.Beginnings.{begin_other, begin_face}
 use Rattle.ply_body.proofs.Binds.{map_same, later_reason, told_both, told_none}
 use Rattle.ply_body.proofs.Coming.{at_end}

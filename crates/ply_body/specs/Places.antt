@@ -1,5 +1,5 @@
 -- Places in the rows of an element, and what the steps from one to the next say.
-use Rattle.std.specs.Prelude.{false, ◌≡◌, ◌≢◌, ◌⊎◌, ℕ, zero, suc, ◌+◌, ◌-◌, ◌^◌, ◌≤◌, ◌<◌, min, List, [], ◌∷◌, ◌++◌, length, take, drop, All, Option, Some, None, Result, Ok, Err}
+use Rattle.std.specs.Prelude.{false, ◌≡◌, ◌≢◌, ◌⊎◌, ℕ, zero, suc, ◌+◌, ◌≤◌, ◌<◌, List, [], ◌∷◌, ◌++◌, length, drop, All, Option, Some, None, Result, Ok, Err}
 use Rattle.std.specs.Option.{option_map, ForSome, IfSome}
 use Rattle.tpz_io.specs.Causes.{Rose}
 use Rattle.tpz_base.specs.declared.shape.Tri.{Tri}
@@ -9,7 +9,7 @@ use Rattle.tpz_base.specs.Texts.{Bytes, Face}
 use Rattle.ply_head.specs.declared.element.Kind.{Kind}
 use Rattle.ply_head.specs.declared.element.Kind.TheVariants.{U8}
 use Rattle.ply_head.specs.declared.element.Role.{Role}
-use Rattle.ply_head.specs.declared.element.Role.TheVariants.{Indices, Skip}
+use Rattle.ply_head.specs.declared.element.Role.TheVariants.{Indices}
 use Rattle.ply_head.specs.declared.element.Property.{Property}
 use Rattle.ply_head.specs.declared.element.Element.{Element}
 use Rattle.ply_head.specs.Heads.{IsSkipped, IsOther}

@@ -1,5 +1,5 @@
 -- What contracts see of a reader of the elements, and what always holds of it.
-use Rattle.std.specs.Prelude.{◌≡◌, ℕ, ◌+◌, ◌≤◌, [], Option, Some, None}
+use Rattle.std.specs.Prelude.{◌≡◌, ◌+◌, ◌≤◌, [], Some, None}
 use Rattle.ply_head.specs.Heads.{IsLaidOut, IsSmall}
 use Rattle.ply_body.specs.declared.faces.Faces.TheInside.{Inside}
 use Rattle.ply_body.specs.declared.frame.Frame.{Frame}

@@ -1,8 +1,8 @@
 use Rattle.std.proofs.Common.{◌≡◌, refl, ap, Err}
 use Rattle.ply_body.specs.declared.item_reader.ItemFault.TheVariants.{Flaw}
-use Rattle.ply_body.specs.Items.{items_told, item_as, count_of, skipped}
+use Rattle.ply_body.specs.Items.{item_as, count_of, skipped}
 use Rattle.ply_body.specs.Places.{pass_one}
-use Rattle.ply_body.proofs.Binds.{bind_ok, bind_err, takes_same, same_refused}
+use Rattle.ply_body.proofs.Binds.{takes_same, same_refused}
 use Rattle.ply_body.proofs.place.pass.Goals as goal
 
 pub returns-in-None-clause-refused : goal.returns-in-None-clause-refused

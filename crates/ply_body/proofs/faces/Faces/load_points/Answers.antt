@@ -1,5 +1,4 @@
-use Rattle.std.proofs.Common.{◌≡◌, ◌∙◌, ◌+◌, refl, sym, subst, ap, arith, Some, Err}
-use Rattle.ply_body.specs.declared.frame.Frame.{Frame}
+use Rattle.std.proofs.Common.{◌≡◌, subst, ap, arith, Err}
 use Rattle.ply_body.specs.Spots.{IsSmallFrame}
 use Rattle.ply_body.proofs.Opening.{before_placed, is_new, loaded_refused, loaded_told}
 use Rattle.ply_body.proofs.faces.Faces.load_points.Goals as goal

@@ -1,10 +1,7 @@
-use Rattle.std.proofs.Common.{◌≡◌, ◌∙◌, ◌⊎◌, inl, inr, ◌+◌, ◌∷◌, ◌++◌, [], length, refl, sym, subst, ap, Ok, Err, Some, None, arith}
-use Rattle.ply_body.specs.declared.fault.BodyFault.{BodyFault}
+use Rattle.std.proofs.Common.{◌≡◌, ◌∙◌, inr, ◌+◌, ◌∷◌, ◌++◌, [], refl, ap, Ok, Some}
 use Rattle.ply_body.specs.declared.fault.BodyFault.TheVariants.{InputFault, WorkFault, WorkDamage}
 use Rattle.ply_body.specs.declared.faces.Faces.TheInside.{Inside}
-use Rattle.ply_body.specs.Readings.{coming_told, GivesFace}
-use Rattle.ply_body.specs.Reader.{reading_of, IsReader}
-use Rattle.ply_body.specs.Places.{IsReason, IsWorkReason, WalkFails}
+use Rattle.ply_body.specs.Reader.{reading_of}
 use Rattle.ply_body.proofs.Opening.{failed_damage, failed_input, failed_refused, failed_work, ready_of, walked}
 use Rattle.ply_body.proofs.faces.Faces.next_tri.Goals as goal
 

@@ -1,7 +1,6 @@
-use Rattle.std.proofs.Common.{◌≡◌, ℕ, ◌+◌, ◌-◌, [], drop, sym, ◌∙◌, ap, subst, arith, refl, Err}
+use Rattle.std.proofs.Common.{◌≡◌, ◌+◌, ◌-◌, sym, ◌∙◌, ap, subst, arith, refl, Err}
 use Rattle.ply_body.specs.declared.fault.BodyFault.{BodyFault}
-use Rattle.ply_body.specs.declared.item_reader.ItemFault.TheVariants.{Flaw}
-use Rattle.ply_body.specs.Bodies.{fault_of, fan_count}
+use Rattle.ply_body.specs.Bodies.{fault_of}
 use Rattle.ply_body.specs.Readings.{coming}
 use Rattle.ply_body.specs.Places.{cursor_at, front_of, front_read, polygon_of, rest_of, told_at, IsReason}
 use Rattle.ply_body.proofs.Binds.{item_reason, takes_same, refused_told, told_none}

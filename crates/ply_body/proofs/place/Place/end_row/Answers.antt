@@ -1,7 +1,6 @@
-use Rattle.std.proofs.Common.{◌≡◌, ℕ, ◌-◌, [], drop, sym, ◌∙◌, ap, subst, Err}
+use Rattle.std.proofs.Common.{◌-◌, [], drop, sym, ◌∙◌, ap, subst, Err}
 use Rattle.std.proofs.lemmas.List.{take_rest}
 use Rattle.ply_body.specs.declared.fault.BodyFault.{BodyFault}
-use Rattle.ply_body.specs.declared.item_reader.ItemFault.TheVariants.{Flaw}
 use Rattle.ply_body.specs.Bodies.{fault_of}
 use Rattle.ply_body.specs.Readings.{coming}
 use Rattle.ply_body.specs.Places.{cursor_at, passed, polygon_of, rest_of, told_at, IsReason}

@@ -1,4 +1,4 @@
-use Rattle.std.proofs.Common.{◌≡◌, ◌∙◌, ◌<◌, ◌≤◌, ap, Ok, arith}
+use Rattle.std.proofs.Common.{◌∙◌, arith}
 use Rattle.ply_body.proofs.Binds.{then_moves, then_fails}
 use Rattle.ply_body.proofs.place.Place.face_in_element.Goals as goal
 

@@ -1,5 +1,5 @@
 use Rattle.std.proofs.Common.{◌≡◌, ◌≤◌, []}
-use Rattle.ply_body.specs.Places.{tally, HasNearCorners, IsBehind, IsCounted, Moves}
+use Rattle.ply_body.specs.Places.{tally, HasNearCorners, IsCounted, Moves}
 use Rattle.ply_body.proofs.place.Place.face_in_row.Given as goal
 
 abbrev pub invariant-corners : goal.invariant-corners

@@ -1,12 +1,11 @@
-use Rattle.std.proofs.Common.{◌≡◌, ℕ, ◌+◌, ◌-◌, sym, ap, subst, rules, arith, Err}
+use Rattle.std.proofs.Common.{◌≡◌, ◌+◌, ◌-◌, sym, ap, subst, rules, arith, Err}
 use Rattle.ply_body.specs.declared.fault.BodyFault.{BodyFault}
 use Rattle.ply_body.specs.declared.fault.Flaw.TheVariants.{TooManyTris}
-use Rattle.ply_body.specs.declared.item_reader.ItemFault.TheVariants.{Flaw}
 use Rattle.ply_body.specs.Items.{item_as, index_of}
 use Rattle.ply_body.specs.Bodies.{fault_of}
 use Rattle.ply_body.specs.Readings.{coming, with_faces}
 use Rattle.ply_body.specs.Places.{cursor_at, faces_of, polygon_of, rest_of, told_at, IsReason}
-use Rattle.ply_body.proofs.Binds.{flaw_reason, item_reason, refused_told, taken_told, takes_step}
+use Rattle.ply_body.proofs.Binds.{item_reason, refused_told, taken_told, takes_step}
 use Rattle.ply_body.proofs.Coming.{corner_step, corner_refused, corner_too_many}
 use Rattle.ply_body.proofs.place.Place.next_corner.Goals as goal
 

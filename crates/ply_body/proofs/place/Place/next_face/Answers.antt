@@ -1,7 +1,7 @@
-use Rattle.std.proofs.Common.{◌≡◌, ◌∙◌, ◌-◌, ◌+◌, ◌<◌, ◌≤◌, [], length, refl, sym, subst, ap, Ok, Some, None, arith}
+use Rattle.std.proofs.Common.{◌<◌, [], length, sym, subst, ap, Ok, arith}
 use Rattle.ply_body.specs.declared.place.Place.{Place}
-use Rattle.ply_body.specs.Places.{begun, tally, IsPlaced, Walks}
-use Rattle.ply_body.proofs.Walking.{Begins, begins, placed_after, stay, then_walks, then_walks_out, then_walk_fails, walk_fails, walks, walks_out}
+use Rattle.ply_body.specs.Places.{IsPlaced, Walks}
+use Rattle.ply_body.proofs.Walking.{begins, placed_after, then_walks, then_walks_out, then_walk_fails, walk_fails, walks, walks_out}
 use Rattle.ply_body.proofs.place.Place.next_face.Goals as goal
 
 pub returns-in-Ok-Some-clause-placed : goal.returns-in-Ok-Some-clause-placed

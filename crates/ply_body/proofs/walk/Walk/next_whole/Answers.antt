@@ -1,12 +1,11 @@
-use Rattle.std.proofs.Common.{◌≡◌, ◌∙◌, ◌⊎◌, inl, inr, ◌+◌, ◌≤◌, [], ◌∷◌, ◌++◌, length, refl, sym, ap, Ok, Some, None, false, rules, arith}
+use Rattle.std.proofs.Common.{◌≡◌, ◌∙◌, inl, [], ◌∷◌, ◌++◌, refl, sym, ap, Ok, false, rules, arith}
 use Rattle.std.proofs.lemmas.List.{length_push}
 use Rattle.std.proofs.lemmas.List.Elements.{All-nil, All-push}
-use Rattle.tpz_base.specs.declared.shape.Tri.{Tri}
 use Rattle.tpz_base.specs.Texts.{Face}
 use Rattle.tpz_base.specs.Meshes.{is_whole}
 use Rattle.ply_body.specs.Inputs.{points_of, triangle_at}
 use Rattle.ply_body.specs.Places.{face_of}
-use Rattle.ply_body.proofs.Walking.{both_walks, later_work, stay, then_walk_fails, walk_ends}
+use Rattle.ply_body.proofs.Walking.{both_walks, stay, then_walk_fails, walk_ends}
 use Rattle.ply_body.proofs.walk.Walk.next_whole.Goals as goal
 
 pub dropped-init : goal.dropped-init
