@@ -8,3 +8,10 @@ pub mod CubeRows
 pub mod Taking
 pub mod RowsSoFar
 pub mod Layouts
+pub mod Binds
+pub mod Fans
+pub mod Passing
+pub mod Coming
+pub mod Beginnings
+pub mod Walking
+pub mod Opening

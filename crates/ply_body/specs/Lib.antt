@@ -6,3 +6,5 @@ pub mod Readings
 pub mod Tokens
 pub mod Hulls
 pub mod VertexRows
+pub mod Places
+pub mod Reader

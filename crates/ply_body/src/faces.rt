@@ -8,7 +8,7 @@ ghost use Rattle.tpz_base.specs.Meshes.{is_whole};
 ghost use Rattle.tpz_base.specs.Texts.{Face};
 ghost use Rattle.ply_body.specs.declared.fault.BodyFault.{BodyFault};
 ghost use Rattle.ply_body.specs.declared.frame.Frame.{Frame};
-ghost use Rattle.ply_body.specs.Inputs.{points_of, triangle_at};
+ghost use Rattle.ply_body.specs.Inputs.{is_vertex_element, points_of, triangle_at, vertex_count};
 ghost use Rattle.ply_body.specs.Spots.{HoldsPoints, HoldsRows, IsFrameOf, IsSmallFrame, IsTriInCube};
 ghost use Rattle.ply_body.specs.Readings.{coming_told, input_told, opened, with_faces, with_spots, GivesFace, GivesNone, IsOpened, IsRefusal};
 
@@ -16,45 +16,56 @@ use crate::fault::BodyFault;
 use crate::frame::Frame;
 use crate::item_reader::ItemReader;
 use crate::spots::PointBuffer;
-use ply_head::{Element, Head};
+use crate::place::Place;
+use crate::points::load;
+use crate::walk::Walk;
+use ply_head::{Element, Head, Used};
 use std::alloc::{AllocError, Global};
 use std::marker::Model;
 use tpz_base::Tri;
 use tpz_io::{Blob, Source};
-
-// Stands for what isn't written yet.
-#[derive(Clone, Copy, Debug, PartialEq, Eq)]
-enum Never {}
 
 /// Reads the rows behind a header: first the points, which go to a blob, and then the triangles, one by one. Source and
 /// blob are lent to each call: give the same ones to all. After a refusal it answers the same refusal again and calls
 /// nothing.
 #[derive(Drop)]
 pub struct Faces {
-    items: ItemReader,
-    buffer: PointBuffer,
-    elements: Vec<Element>,
+    walk: Walk,
+    digits: u8,
     frame: Option<Frame>,
     refusal: Option<BodyFault>,
-    dropped: u64,
-    never: Never,
+    given: u64,
 }
 
 impl Model for Faces {
-    ghost use Rattle.std.specs.Prelude.{[]};
-    ghost use Rattle.ply_body.specs.Readings.{start, Reading};
+    ghost use Rattle.ply_body.specs.Readings.{Reading};
 
     ghost Value = { Reading };
 
-    ghost view = { λ r. record {
-      setting = record { digits = 0; vertices = 0 };
-      place = r.items;
-      cursor = start [];
-      frame = r.frame;
-      refusal = r.refusal;
-      given = 0;
-      dropped = r.dropped;
-    } };
+    ghost use Rattle.ply_body.specs.Reader.{reading_of, IsReader};
+
+    ghost view = { reading_of };
+
+    ghost invariant = { IsReader };
+}
+
+// Whether it is the used vertex element.
+fn is_vertices(element: &Element) -> bool
+    ensures { result ≡ is_vertex_element element.now }
+{
+    matches!(element.used(), Used::Vertex)
+}
+
+// How many rows the used vertex element has.
+fn vertices_of(elements: &[Element]) -> u64
+    ensures { result ≡ vertex_count elements.now }
+{
+    'elements: for element in elements {
+        if is_vertices(element) {
+            return element.count();
+        }
+    }
+    0
 }
 
 impl Faces {
@@ -63,7 +74,24 @@ impl Faces {
         requires { digits ≤ 9 }
         ensures { IfOk result (λ faces. faces ≡ opened head digits) }
     {
-        Err(AllocError)
+        let parts = head.into_parts();
+        let items = ItemReader::new(alloc, parts.format, parts.reader)?;
+        let buffer = PointBuffer::new(alloc)?;
+        let vertices = vertices_of(parts.elements.as_slice());
+        Ok(Faces {
+            walk: Walk {
+                items,
+                buffer,
+                elements: parts.elements,
+                vertices,
+                place: Place::start(),
+                dropped: 0,
+            },
+            digits,
+            frame: None,
+            refusal: None,
+            given: 0,
+        })
     }
 
     /// Reads to the end of the used vertex element, and writes each point to the blob. It is the first call.
@@ -86,12 +114,23 @@ impl Faces {
         ensures kept { (f : BodyFault) → result ≡ Err f → self.new.refusal ≡ Some f }
         ensures input { IsErrOf result BodyFault.InputFault → Rose (I.faults src.old) (I.faults src.new) }
         ensures work { IsErrOf result BodyFault.WorkFault → Rose (B.faults points.old) (B.faults points.new) }
-        ensures damage { (offset : ℕ) → result ≡ Err (BodyFault.WorkDamage offset) → B.held points.old ≡ None }
+        ensures damage { (offset : ℕ) → ¬ (result ≡ Err (BodyFault.WorkDamage offset)) }
         ensures later { (I.faults src.old ≤ I.faults src.new) × (B.faults points.old ≤ B.faults points.new) }
         // Whether source and blob tell their bytes or not:
         ensures small { IfOk result IsSmallFrame }
     {
-        match self.never {}
+        let walk = &mut self.walk;
+        match load(&mut walk.items, &mut walk.buffer, walk.elements.as_slice(), self.digits, src, points) {
+            Ok(loaded) => {
+                self.walk.place = Place::before(loaded.next);
+                self.frame = Some(loaded.frame);
+                Ok(loaded.frame)
+            }
+            Err(fault) => {
+                self.refusal = Some(fault);
+                Err(fault)
+            }
+        }
     }
 
     /// The next triangle that is whole, relative to `low`. None comes where all elements were read.
@@ -129,13 +168,26 @@ impl Faces {
         ensures cube { (t : Tri) → result ≡ Ok (Some t) → IsTriInCube frame.now.l t }
         ensures few { self.new.given + self.new.dropped ≤ 2147483648 }
     {
-        match self.never {}
+        if let Some(fault) = self.refusal {
+            return Err(fault);
+        }
+        match self.walk.next_whole(src, frame, points) {
+            Ok(Some(tri)) => {
+                self.given += 1;
+                Ok(Some(tri))
+            }
+            Ok(None) => Ok(None),
+            Err(fault) => {
+                self.refusal = Some(fault);
+                Err(fault)
+            }
+        }
     }
 
     /// How many triangles with two equal corners were dropped so far.
     pub fn dropped(&self) -> u64
         ensures { result ≡ self.now.dropped }
     {
-        self.dropped
+        self.walk.dropped
     }
 }

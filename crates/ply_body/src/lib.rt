@@ -1,23 +1,26 @@
 //! The rows of a PLY input: its points, kept in a blob, and its triangles, one after another.
 #![tactic(auto)]
 
+mod corners;
 mod faces;
 mod fault;
 mod field;
 mod frame;
-mod item;
 mod hull;
+mod item;
 mod item_reader;
 #[cfg(test)]
 mod item_tests;
 mod meaning;
+mod place;
 mod points;
 mod row;
 mod spots;
-mod token;
-mod whole_number;
 #[cfg(test)]
 mod spots_tests;
+mod token;
+mod walk;
+mod whole_number;
 
 pub use faces::Faces;
 pub use fault::BodyFault;

@@ -242,7 +242,7 @@ pub fn load<I: Source, B: Blob>(
         → ForSome (items_told items.old (I.left src.old)) (λ rest. input_from (setting_of elements.now digits) 0 elements.now no_input rest ≡ Err f) }
     ensures input { IsErrOf result BodyFault.InputFault → Rose (I.faults src.old) (I.faults src.new) }
     ensures work { IsErrOf result BodyFault.WorkFault → Rose (B.faults points.old) (B.faults points.new) }
-    ensures damage { (offset : ℕ) → result ≡ Err (BodyFault.WorkDamage offset) → B.held points.old ≡ None }
+    ensures damage { (offset : ℕ) → ¬ (result ≡ Err (BodyFault.WorkDamage offset)) }
     ensures input_later { I.faults src.old ≤ I.faults src.new }
     ensures work_later { B.faults points.old ≤ B.faults points.new }
 {

@@ -1,0 +1,14 @@
+use Rattle.std.proofs.Common.{◌≡◌, ap, drop, Err}
+use Rattle.ply_body.specs.declared.item_reader.ItemFault.TheVariants.{Flaw}
+use Rattle.ply_body.specs.Places.{passed}
+use Rattle.ply_body.proofs.Binds.{same_refused}
+use Rattle.ply_body.proofs.Passing.{passed_refused}
+use Rattle.ply_body.proofs.place.pass_all.Goals as goal
+
+pub returns-in-Err-clause-refused : goal.returns-in-Err-clause-refused
+returns-in-Err-clause-refused g c = λ flaw is.
+    let same : c.in-Err.fault ≡ Flaw flaw = cc in
+    let ps = c.args.properties.now in
+    let i = c.properties.property-index in
+    same_refused (passed ps) (passed (drop i ps)) (Err flaw) _ _ c.properties.invariant.passes
+    (λ x told. passed_refused ps i x flaw c.properties-test.true (c.in-Err.ensures.refused flaw (ap Err same) x told))

@@ -1,0 +1,60 @@
+// The triangle of three corners, whose points are in the blob.
+ghost use Rattle.std.specs.Prelude.{◌≡◌, ◌≤◌, ℕ, List, IfOk, IfErr};
+ghost use Rattle.std.specs.Option.{ForSome};
+ghost use Rattle.tpz_base.specs.Cubes.{Row};
+ghost use Rattle.ply_body.specs.Inputs.{point_at, points_of, triangle_at};
+ghost use Rattle.ply_body.specs.Spots.{HoldsPoints, HoldsRows, IsFrameOf, IsInCube, IsSmallFrame, IsTriInCube};
+ghost use Rattle.ply_body.specs.Places.{face_of, IsWorkReason};
+
+use crate::fault::BodyFault;
+use crate::frame::Frame;
+use crate::place::Corners;
+use crate::spots::{PointBuffer, PointFault};
+use tpz_base::{Point, Tri};
+use tpz_io::Blob;
+
+// The point of a corner. A vertex element without properties has no rows, and its vertices have the coordinates 0.
+fn point_of<B: Blob>(buffer: &mut PointBuffer, points: &mut B, frame: &Frame, number: u32) -> Result<Point, BodyFault>
+    requires small { IsSmallFrame frame.now }
+    requires points { ForSome (B.held points.old) (HoldsPoints frame.now) }
+    ensures point { IfOk result (λ p. ForSome (B.held points.old) (λ bytes. (rows : List Row)
+        → IsFrameOf frame.now rows → HoldsRows rows bytes → p ≡ point_at (points_of rows) number)) }
+    ensures cube { IfOk result (IsInCube frame.now.l) }
+    ensures failed { IfErr result (IsWorkReason (B.held points.old) (B.faults points.old) (B.faults points.new)) }
+    ensures held { B.held points.new ≡ B.held points.old }
+    ensures later { B.faults points.old ≤ B.faults points.new }
+{
+    if number as u64 >= frame.vertices {
+        return Ok(Point { x: 0, y: 0, z: 0 });
+    }
+    match buffer.read_point(points, frame, number) {
+        Ok(point) => Ok(point),
+        Err(PointFault::Failed) => Err(BodyFault::WorkFault),
+        Err(PointFault::Damage { offset }) => Err(BodyFault::WorkDamage { offset }),
+    }
+}
+
+/// The triangle of three corners.
+pub fn tri_of<B: Blob>(buffer: &mut PointBuffer, points: &mut B, frame: &Frame, corners: Corners) -> Result<Tri, BodyFault>
+    requires small { IsSmallFrame frame.now }
+    requires points { ForSome (B.held points.old) (HoldsPoints frame.now) }
+    ensures tri { IfOk result (λ t. ForSome (B.held points.old) (λ bytes. (rows : List Row)
+        → IsFrameOf frame.now rows → HoldsRows rows bytes → t ≡ triangle_at (points_of rows) (face_of corners))) }
+    ensures cube { IfOk result (IsTriInCube frame.now.l) }
+    ensures failed { IfErr result (IsWorkReason (B.held points.old) (B.faults points.old) (B.faults points.new)) }
+    ensures held { B.held points.new ≡ B.held points.old }
+    ensures later { B.faults points.old ≤ B.faults points.new }
+{
+    let a = match point_of(buffer, points, frame, corners.i) {
+        Ok(point) => point,
+        Err(fault) => return Err(fault),
+    };
+    let b = match point_of(buffer, points, frame, corners.j) {
+        Ok(point) => point,
+        Err(fault) => return Err(fault),
+    };
+    match point_of(buffer, points, frame, corners.k) {
+        Ok(c) => Ok(Tri { a, b, c }),
+        Err(fault) => Err(fault),
+    }
+}
