@@ -15,3 +15,4 @@ pub mod Coming
 pub mod Beginnings
 pub mod Walking
 pub mod Opening
+pub mod VertexCounts

@@ -10,7 +10,8 @@ use Rattle.ply_head.specs.declared.element.Kind.{Kind}
 use Rattle.ply_head.specs.declared.element.Role.{Role}
 use Rattle.ply_head.specs.declared.element.Role.TheVariants.{X, Y, Z, Indices, Skip}
 use Rattle.ply_head.specs.declared.element.Property.{Property}
-use Rattle.ply_body.specs.Items.{◌>>=◌, Item, Items, coordinate_of, count_of, item, item_as, skipped, Takes, Refuses}
+use Rattle.ply_body.specs.declared.item.Item.{Item}
+use Rattle.ply_body.specs.Items.{◌>>=◌, Items, coordinate_of, count_of, item, item_as, skipped, Takes, Refuses}
 use Rattle.ply_body.specs.Bodies.{Setting, RowItems, scalar, with_property, with_properties}
 
 pub chain : {X Y E : Type 0} (f : Items → Result (X × Items) E) (g : X × Items → Result Y E) (old mid : Option Items) (x : X)

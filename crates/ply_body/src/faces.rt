@@ -75,7 +75,7 @@ impl Faces {
         ensures { IfOk result (λ faces. faces ≡ opened head digits) }
     {
         let parts = head.into_parts();
-        let items = ItemReader::new(alloc, parts.format, parts.reader)?;
+        let items = ItemReader::new(parts.format, parts.reader);
         let buffer = PointBuffer::new(alloc)?;
         let vertices = vertices_of(parts.elements.as_slice());
         Ok(Faces {

@@ -14,7 +14,6 @@ use crate::item::Item;
 use crate::meaning::{coordinate_of, count_of, index_of};
 use crate::token::next_token;
 use ply_head::{Format, Kind};
-use std::alloc::{AllocError, Global};
 use std::marker::Model;
 use tpz_io::{Failed, Reader, Source};
 
@@ -65,14 +64,14 @@ impl Model for ItemReader {
 
 impl ItemReader {
     /// Reads on behind a header. Neither this nor a call takes memory: a token is kept where it is returned.
-    pub fn new(_alloc: Global, format: Format, reader: Reader) -> Result<Self, AllocError>
-        ensures { IfOk result (λ items. items ≡ record { format = format; room = MOST_BYTES; held = reader }) }
+    pub fn new(format: Format, reader: Reader) -> Self
+        ensures { result ≡ record { format = format; room = MOST_BYTES; held = reader } }
     {
-        Ok(ItemReader {
+        ItemReader {
             reader,
             format,
             room: ROOM,
-        })
+        }
     }
 
     /// Takes a coordinate, scaled by so many digits.

@@ -14,7 +14,7 @@ fn source(alloc: Global, bytes: &[u8], fails: &[u64]) -> Result<MemSource, Fail>
 }
 
 fn items(alloc: Global, format: Format) -> Result<ItemReader, Fail> {
-    Ok(ItemReader::new(alloc, format, Reader::new(alloc)?)?)
+    Ok(ItemReader::new(format, Reader::new(alloc)?))
 }
 
 const LONGEST: &str = "0000000000000000000000000000000000000000000000000000000000000007";
