@@ -1,6 +1,6 @@
 -- The least and the greatest coordinates of rows, and the rows less the least.
 use Rattle.std.proofs.Common.{◌≡◌, ℕ, zero, suc, ◌+◌, ◌≤◌, ◌<◌, ◌^◌, List, [], ◌∷◌, ◌++◌, map, length, get_or, refl, sym, ◌∙◌, ap, subst, cond, arith}
-use Rattle.std.specs.Prelude.{IfSome, max, Bool, true, false, IsTrue, ℤ, pos, negsuc, ◌-ℤ◌, ◌≤ℤ◌, fold, All, find, nat_le, nat_lt, unwrap_or}
+use Rattle.std.specs.Prelude.{IfSome, max, Bool, true, false, ℤ, pos, negsuc, ◌-ℤ◌, ◌≤ℤ◌, fold, All, find, nat_le, nat_lt, unwrap_or}
 use Rattle.std.specs.Int.{int_min, int_max}
 use Rattle.std.specs.List.{AllByRecursion, range_with_len, slice_index_or}
 use Rattle.std.specs.Option.{option_or}
@@ -8,14 +8,13 @@ use Rattle.std.specs.declared.option.Option.{Option}
 use Rattle.std.specs.declared.option.Option.TheVariants.{None, Some}
 use Rattle.std.proofs.lemmas.Int.{ints, clamps}
 use Rattle.std.proofs.lemmas.Bool.{leb-true, le-leb, lt-leb, ltb-false}
-use Rattle.std.proofs.lemmas.List.{map-append}
 use Rattle.std.proofs.lemmas.List.Sums.{fold-append}
 use Rattle.std.proofs.lemmas.List.Elements.{All-nil, All-from_recursion}
 use Rattle.tpz_base.specs.Points.{point}
 use Rattle.tpz_base.specs.Cubes.{Row, extent, least, less, level_bound, low_of, most, natural_of, widest}
 use Rattle.ply_body.specs.declared.frame.Frame.{Frame}
 use Rattle.ply_body.specs.Inputs.{point_at, points_of}
-use Rattle.ply_body.specs.Spots.{row_of, IsFrameOf, IsInCube, IsNear, IsOver}
+use Rattle.ply_body.specs.Spots.{row_of, IsFrameOf, IsNear, IsOver}
 use Rattle.ply_body.specs.Hulls.{level_from, lower, higher, high_of, HasHull, IsExtent}
 use Rattle.ply_body.specs.declared.hull.Hull.{Hull}
 use Rattle.ply_body.specs.declared.fault.BodyFault.{BodyFault}

@@ -1,6 +1,6 @@
 -- The bytes of rows in a blob, and the row at a place among them.
 use Rattle.std.proofs.Common.{◌≡◌, ℕ, zero, suc, ◌+◌, ◌-◌, ◌*◌, ◌^◌, ◌<◌, ◌≤◌, List, [], ◌∷◌, ◌++◌, length, take, drop, replicate, get_or, refl, sym, ◌∙◌, ap, subst, arith, append_assoc, w32}
-use Rattle.std.specs.Prelude.{Bool, false, ℤ, pos, ◌-ℤ◌, FitsSigned, Result, Ok, Err, OnOk, is_err}
+use Rattle.std.specs.Prelude.{false, ℤ, pos, ◌-ℤ◌, FitsSigned, Result, Ok, Err, OnOk, is_err}
 use Rattle.std.specs.List.{slice_index_or}
 use Rattle.std.specs.Int.{cast_signed, cast_unsigned}
 use Rattle.std.specs.Option.{ForSome, option_map}

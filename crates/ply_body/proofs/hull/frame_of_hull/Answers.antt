@@ -1,4 +1,4 @@
-use Rattle.std.proofs.Common.{◌≡◌, ◌*◌, ◌∙◌, sym, ap, arith}
+use Rattle.std.proofs.Common.{◌*◌, ◌∙◌, sym, ap}
 use Rattle.ply_body.specs.Hulls.{level_from}
 use Rattle.ply_body.specs.Spots.{coordinates}
 use Rattle.ply_body.proofs.CubeRows.{level_is, narrow_is}

@@ -1,4 +1,4 @@
-use Rattle.std.proofs.Common.{◌≡◌, ◌∙◌, sym, ap, ℕ, ◌+◌, ◌-◌, suc, arith}
+use Rattle.std.proofs.Common.{◌≡◌, ◌∙◌, sym, ap, ℕ, ◌-◌, suc, arith}
 use Rattle.ply_body.specs.Hulls.{level_from}
 use Rattle.ply_body.proofs.CubeRows.{level_here, level_next, level_end}
 use Rattle.ply_body.proofs.hull.level_of.Goals as goal

@@ -1,4 +1,4 @@
-use Rattle.std.proofs.Common.{rules, ◌≡◌, ◌∙◌, sym, ap, subst, map, w32}
+use Rattle.std.proofs.Common.{rules, ◌∙◌, sym, ap, subst, map, w32}
 use Rattle.std.specs.Prelude.{FitsSigned, IfSome, Option}
 use Rattle.std.proofs.lemmas.Int.{to_z-of_z}
 use Rattle.std.specs.Option.{option_or}

@@ -1,7 +1,6 @@
-use Rattle.std.proofs.Common.{◌≡◌, ◌∙◌, sym, ap, Err}
+use Rattle.std.proofs.Common.{◌≡◌, ap, Err}
 use Rattle.std.proofs.lemmas.Result.{err_from_is_err_and}
 use Rattle.ply_body.specs.declared.fault.BodyFault.TheVariants.{WorkFault, WorkDamage}
-use Rattle.ply_body.specs.VertexRows.{IsOfInput}
 use Rattle.ply_body.proofs.Layouts.{loaded, refused_before, vertex_refused}
 use Rattle.ply_body.proofs.points.load.Goals as goal
 

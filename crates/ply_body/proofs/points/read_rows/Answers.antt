@@ -1,12 +1,10 @@
-use Rattle.std.proofs.Common.{rules, ◌≡◌, ◌≤◌, ◌<◌, ◌+◌, ◌*◌, ◌++◌, ◌∷◌, ◌∙◌, ℕ, List, [], length, refl, sym, subst, ap, arith, Err, w32}
+use Rattle.std.proofs.Common.{rules, ◌≡◌, ◌+◌, ◌++◌, ◌∷◌, ◌∙◌, ℕ, [], length, refl, sym, ap, arith, Err, w32}
 use Rattle.std.specs.Prelude.{FitsSigned}
 use Rattle.std.proofs.lemmas.List.{length_push}
 use Rattle.std.proofs.lemmas.List.Elements.{All-nil, All-push}
 use Rattle.std.proofs.lemmas.Result.{err_from_is_err_and}
-use Rattle.ply_body.specs.declared.fault.BodyFault.{BodyFault}
 use Rattle.ply_body.specs.declared.fault.BodyFault.TheVariants.{WorkFault, WorkDamage}
 use Rattle.ply_body.specs.Spots.{row_of, IsSmallRow}
-use Rattle.ply_body.specs.VertexRows.{IsOfInput}
 use Rattle.ply_body.proofs.SpotRows.{keeps_none, where_ok}
 use Rattle.ply_body.proofs.RowsSoFar.{none_read, more_read, all_read, row_is_refused}
 use Rattle.ply_body.proofs.points.read_rows.Goals as goal

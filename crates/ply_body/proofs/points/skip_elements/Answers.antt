@@ -1,7 +1,6 @@
-use Rattle.std.proofs.Common.{◌≡◌, ◌≤◌, ◌<◌, ◌∙◌, length, sym, subst, ap, arith, Err}
+use Rattle.std.proofs.Common.{◌≡◌, ◌<◌, ◌∙◌, length, sym, subst, ap, arith, Err}
 use Rattle.std.proofs.lemmas.Result.{err_from_is_err_and}
 use Rattle.ply_head.specs.Heads.{IsOther}
-use Rattle.ply_body.specs.Items.{items_told}
 use Rattle.ply_body.specs.VertexRows.{setting}
 use Rattle.ply_body.proofs.Taking.{refused_behind}
 use Rattle.ply_body.proofs.Layouts.{element_passed, element_refused, elements_end}

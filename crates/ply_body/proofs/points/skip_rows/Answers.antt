@@ -1,9 +1,7 @@
-use Rattle.std.proofs.Common.{◌≡◌, ◌≤◌, ◌<◌, ◌+◌, ◌++◌, ◌∷◌, ◌∙◌, ℕ, List, [], length, refl, sym, subst, ap, arith, Err}
+use Rattle.std.proofs.Common.{◌≡◌, ◌+◌, ◌++◌, ◌∷◌, ◌∙◌, ℕ, [], length, refl, ap, arith, Err}
 use Rattle.std.proofs.lemmas.List.{length_push}
 use Rattle.std.proofs.lemmas.Result.{err_from_is_err_and}
-use Rattle.ply_body.specs.declared.fault.BodyFault.{BodyFault}
 use Rattle.ply_body.specs.Spots.{row_of}
-use Rattle.ply_body.specs.VertexRows.{RefusesRowAt}
 use Rattle.ply_body.proofs.RowsSoFar.{none_read, more_read, all_read, row_is_refused}
 use Rattle.ply_body.proofs.points.skip_rows.Goals as goal
 

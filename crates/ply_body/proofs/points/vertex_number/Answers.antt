@@ -1,4 +1,4 @@
-use Rattle.std.proofs.Common.{◌≡◌, ◌<◌, length, ap, sym, ◌∙◌, rules, arith}
+use Rattle.std.proofs.Common.{◌≡◌, ap, sym, ◌∙◌, rules, arith}
 use Rattle.ply_head.specs.declared.element.Used.TheVariants.{Vertex}
 use Rattle.ply_head.specs.declared.element.Element.{Element}
 use Rattle.ply_body.proofs.Layouts.{first_vertex, no_vertex}

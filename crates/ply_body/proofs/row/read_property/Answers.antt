@@ -1,4 +1,3 @@
-use Rattle.std.proofs.Common.{◌≡◌, ◌∙◌, ap, Err, arith}
 use Rattle.ply_body.proofs.row.read_property.Goals as goal
 
 pub returns-in-Some-clause-refused : goal.returns-in-Some-clause-refused

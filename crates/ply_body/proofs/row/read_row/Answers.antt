@@ -1,6 +1,5 @@
-use Rattle.std.proofs.Common.{◌≡◌, ◌∙◌, ◌<◌, ◌≤◌, length, ap, Err, arith}
+use Rattle.std.proofs.Common.{◌≡◌, ◌∙◌, ◌<◌, length, ap, Err, arith}
 use Rattle.std.proofs.lemmas.Result.{err_from_is_err_and}
-use Rattle.std.proofs.lemmas.Grind.{common_steps}
 use Rattle.ply_body.specs.declared.item_reader.ItemFault.TheVariants as item_fault
 use Rattle.ply_body.specs.VertexRows.{setting}
 use Rattle.ply_body.proofs.Taking.{refused_behind, row_step, row_refused, row_ends}

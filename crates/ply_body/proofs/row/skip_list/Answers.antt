@@ -7,7 +7,7 @@ use Rattle.ply_body.specs.Items.{◌>>=◌, Items, count_of, item_as, skipped}
 use Rattle.ply_body.specs.Bodies.{RowItems}
 use Rattle.ply_body.specs.VertexRows.{setting, used_row}
 use Rattle.ply_body.specs.Spots.{row_of}
-use Rattle.ply_body.proofs.Taking.{chain, list_is, refused_first, refused_behind}
+use Rattle.ply_body.proofs.Taking.{chain, list_is, refused_behind}
 use Rattle.ply_body.proofs.row.skip_list.Goals as goal
 
 pub returns-in_err-count-clause-refused : goal.returns-in_err-count-clause-refused

@@ -1,7 +1,6 @@
-use Rattle.std.proofs.Common.{rules, arith, ◌≡◌, ◌≤◌, ◌<◌, ap, w32, w64, slice_index_or}
-use Rattle.std.specs.Prelude.{ℤ, pos, ◌≤ℤ◌, FitsSigned, List}
-use Rattle.std.proofs.lemmas.Int.{ints, to_z-of_z}
-use Rattle.tpz_base.specs.Cubes.{natural_of, Row}
+use Rattle.std.proofs.Common.{rules, arith, ◌≡◌, ap, w32, w64, slice_index_or}
+use Rattle.std.specs.Prelude.{ℤ, pos, FitsSigned, List}
+use Rattle.std.proofs.lemmas.Int.{to_z-of_z}
 use Rattle.ply_body.specs.Spots.{row_of}
 use Rattle.ply_body.proofs.SpotRows.{point_is}
 use Rattle.ply_body.proofs.spots.point_of.Goals as goal

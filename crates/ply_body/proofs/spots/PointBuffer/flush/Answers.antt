@@ -1,8 +1,7 @@
-use Rattle.std.proofs.Common.{◌≡◌, ℕ, ◌+◌, ◌-◌, ◌*◌, List, length, subst, sym, arith, ◌∙◌, ap}
+use Rattle.std.proofs.Common.{◌≡◌, ℕ, ◌+◌, ◌-◌, ◌*◌, List, length, subst, sym, arith}
 use Rattle.std.proofs.lemmas.Grind.{common_steps}
 use Rattle.std.specs.Option.{ForSome}
 use Rattle.std.specs.declared.option.Option.{Option}
-use Rattle.tpz_base.specs.Cubes.{Row}
 use Rattle.ply_body.specs.Spots.{HoldsRows}
 use Rattle.ply_body.proofs.SpotRows.{holds_written}
 use Rattle.ply_body.proofs.spots.PointBuffer.flush.Goals as goal

@@ -1,6 +1,5 @@
-use Rattle.std.specs.Prelude.{Result, Ok, Err, OnOk, List, ◌≡◌, length}
-use Rattle.std.proofs.Common.{subst, sym, ℕ}
-use Rattle.tpz_base.specs.Cubes.{Row}
+use Rattle.std.specs.Prelude.{Result, Ok, Err, OnOk}
+use Rattle.std.proofs.Common.{subst, sym}
 use Rattle.tpz_base.specs.Texts.{Bytes}
 use Rattle.ply_body.specs.Spots.{Keeps}
 use Rattle.ply_body.proofs.SpotRows.{keeps_all}

@@ -1,12 +1,11 @@
-use Rattle.std.proofs.Common.{◌≡◌, ◌<◌, ◌+◌, ◌*◌, ℕ, List, length, drop, take, get_or, false, refl, sym, ◌∙◌, ap, subst, arith}
-use Rattle.std.specs.Prelude.{pos, Result, Ok, Err, OnOk, is_err}
+use Rattle.std.proofs.Common.{◌≡◌, ◌<◌, ◌*◌, ℕ, length, drop, take, get_or, refl, sym, ◌∙◌, ap, subst, arith}
+use Rattle.std.specs.Prelude.{pos}
 use Rattle.std.specs.declared.option.Option.{Option}
 use Rattle.std.specs.declared.option.Option.TheVariants.{None, Some}
-use Rattle.std.specs.Option.{ForSome}
 use Rattle.tpz_base.specs.Cubes.{less, low_of, Row}
 use Rattle.tpz_base.specs.Texts.{Bytes}
 use Rattle.ply_body.specs.Bodies.{row_at as row_by}
-use Rattle.ply_body.specs.Spots.{row_bytes, row_of, HoldsRows, IsFrameOf, IsNear, IsSmallRow}
+use Rattle.ply_body.specs.Spots.{IsNear}
 use Rattle.ply_body.proofs.CubeRows.{row_near, point_at_is}
 use Rattle.ply_body.proofs.SpotRows.{fits_at, row_at, where_ok}
 use Rattle.ply_body.proofs.spots.PointBuffer.read_point.Goals as goal
