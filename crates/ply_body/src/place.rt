@@ -95,10 +95,7 @@ fn pass<I: Source>(items: &mut ItemReader, src: &mut I, property: &Property) -> 
         Some(count_kind) => count_kind,
         None => return items.skip(src, property.kind, 1),
     };
-    let count = match items.count(src, count_kind) {
-        Ok(count) => count,
-        Err(fault) => return Err(fault),
-    };
+    let count = items.count(src, count_kind)?;
     items.skip(src, property.kind, count)
 }
 
@@ -110,10 +107,7 @@ fn pass_all<I: Source>(items: &mut ItemReader, src: &mut I, properties: &[Proper
     ensures later { I.faults src.old ≤ I.faults src.new }
 {
     'properties: for property in properties {
-        match pass(items, src, property) {
-            Ok(()) => {}
-            Err(fault) => return Err(fault),
-        }
+        pass(items, src, property)?;
     }
     Ok(())
 }
@@ -130,13 +124,10 @@ fn read_front<I: Source>(items: &mut ItemReader, src: &mut I, properties: &[Prop
     ensures later { I.faults src.old ≤ I.faults src.new }
 {
     'front: for (at, property) in properties.iter().enumerate() {
-        match kind_of_count(property) {
-            Some(count_kind) => return read_list(items, src, count_kind, property.kind, at + 1),
-            None => match pass(items, src, property) {
-                Ok(()) => {}
-                Err(fault) => return Err(fault),
-            },
+        if let Some(count_kind) = kind_of_count(property) {
+            return read_list(items, src, count_kind, property.kind, at + 1);
         }
+        pass(items, src, property)?;
     }
     Ok(Front {
         kind: Kind::U8,
@@ -153,14 +144,12 @@ fn read_list<I: Source>(items: &mut ItemReader, src: &mut I, count_kind: Kind, k
     ensures input { IsErrOf result ItemFault.Input → Rose (I.faults src.old) (I.faults src.new) }
     ensures later { I.faults src.old ≤ I.faults src.new }
 {
-    match items.count(src, count_kind) {
-        Ok(count) => Ok(Front {
-            kind,
-            count,
-            behind: Some(behind),
-        }),
-        Err(fault) => Err(fault),
-    }
+    let count = items.count(src, count_kind)?;
+    Ok(Front {
+        kind,
+        count,
+        behind: Some(behind),
+    })
 }
 
 impl Polygon {
@@ -341,16 +330,12 @@ impl Place {
         ensures later { I.faults src.old ≤ I.faults src.new }
     {
         'corners: while self.polygon.left > 0 {
-            match self.next_corner(items, src, vertices) {
-                Ok(Some(face)) => return Ok(Some(face)),
-                Ok(None) => {}
-                Err(fault) => return Err(fault),
+            if let Some(face) = self.next_corner(items, src, vertices)? {
+                return Ok(Some(face));
             }
         }
-        match self.end_row(items, src, properties) {
-            Ok(()) => Ok(None),
-            Err(fault) => Err(fault),
-        }
+        self.end_row(items, src, properties)?;
+        Ok(None)
     }
 
     // The next triangle of the rows that are left of the element.
@@ -370,18 +355,13 @@ impl Place {
         ensures later { I.faults src.old ≤ I.faults src.new }
     {
         'rows: loop {
-            match self.face_in_row(items, src, properties, vertices) {
-                Ok(Some(face)) => return Ok(Some(face)),
-                Ok(None) => {}
-                Err(fault) => return Err(fault),
+            if let Some(face) = self.face_in_row(items, src, properties, vertices)? {
+                return Ok(Some(face));
             }
             if self.left == 0 {
                 return Ok(None);
             }
-            match self.begin_row(items, src, properties) {
-                Ok(()) => {}
-                Err(fault) => return Err(fault),
-            }
+            self.begin_row(items, src, properties)?;
         }
     }
 
@@ -414,10 +394,8 @@ impl Place {
     {
         'elements: loop {
             let properties = current(elements, self.next);
-            match self.face_in_element(items, src, properties, vertices) {
-                Ok(Some(face)) => return Ok(Some(face)),
-                Ok(None) => {}
-                Err(fault) => return Err(fault),
+            if let Some(face) = self.face_in_element(items, src, properties, vertices)? {
+                return Ok(Some(face));
             }
             if self.next == elements.len() {
                 return Ok(None);
