@@ -12,7 +12,7 @@ use Rattle.ply_head.specs.Heads.{IsSkipped, IsOther, IsFaceElement, IsSmall}
 use Rattle.ply_body.specs.declared.fault.BodyFault.{BodyFault}
 use Rattle.ply_body.specs.declared.fault.BodyFault.TheVariants.{InputFault, WorkFault, WorkDamage}
 use Rattle.ply_body.specs.declared.fault.BodyFault.TheVariants as fault
-use Rattle.ply_body.specs.declared.place.Corners.{Corners}
+use Rattle.ply_body.specs.declared.polygon.Corners.{Corners}
 use Rattle.ply_body.specs.declared.place.Place.{Place}
 use Rattle.ply_body.specs.Items.{Items, ItemPlace, items_told}
 use Rattle.ply_body.specs.Bodies.{Setting, row_count}

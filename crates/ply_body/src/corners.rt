@@ -8,7 +8,7 @@ ghost use Rattle.ply_body.specs.Places.{face_of, IsWorkReason};
 
 use crate::fault::BodyFault;
 use crate::frame::Frame;
-use crate::place::Corners;
+use crate::polygon::Corners;
 use crate::spots::{PointBuffer, PointFault};
 use tpz_base::{Point, Tri};
 use tpz_io::Blob;
@@ -45,16 +45,8 @@ pub fn tri_of<B: Blob>(buffer: &mut PointBuffer, points: &mut B, frame: &Frame, 
     ensures held { B.held points.new ≡ B.held points.old }
     ensures later { B.faults points.old ≤ B.faults points.new }
 {
-    let a = match point_of(buffer, points, frame, corners.i) {
-        Ok(point) => point,
-        Err(fault) => return Err(fault),
-    };
-    let b = match point_of(buffer, points, frame, corners.j) {
-        Ok(point) => point,
-        Err(fault) => return Err(fault),
-    };
-    match point_of(buffer, points, frame, corners.k) {
-        Ok(c) => Ok(Tri { a, b, c }),
-        Err(fault) => Err(fault),
-    }
+    let a = point_of(buffer, points, frame, corners.i)?;
+    let b = point_of(buffer, points, frame, corners.j)?;
+    let c = point_of(buffer, points, frame, corners.k)?;
+    Ok(Tri { a, b, c })
 }

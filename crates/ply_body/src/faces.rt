@@ -84,7 +84,7 @@ impl Faces {
                 buffer,
                 elements: parts.elements,
                 vertices,
-                place: Place::start(),
+                place: Place::before(0),
                 dropped: 0,
             },
             digits,

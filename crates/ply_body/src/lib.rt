@@ -8,6 +8,8 @@ mod frame;
 mod item_reader;
 mod place;
 mod points;
+mod polygon;
+mod row;
 mod spots;
 mod walk;
 

@@ -1,40 +1,16 @@
-// A place in the rows of an element, and the steps from one to the next.
-ghost use Rattle.std.specs.Prelude.{All, ◌≡◌, ◌⊎◌, ◌≤◌, ◌<◌, ◌+◌, ◌-◌, ◌^◌, ◌∷◌, ◌++◌, [], ℕ, List, length, Err, Ok, Some, None, IfOk, IfErr, IfSome, OnOk, IsErrOf};
-ghost use Rattle.std.specs.Option.{option_map};
-ghost use Rattle.tpz_io.specs.Causes.{Rose};
-ghost use Rattle.ply_head.specs.declared.element.Element.{Element};
+// A place in the elements, and the steps from one to the next.
+ghost use Rattle.std.specs.Prelude.{All, ◌≡◌, ◌≤◌, ◌<◌, ◌+◌, ◌-◌, [], ℕ, List, length, Ok, None, IfOk, IfErr, IfSome, OnOk};
 ghost use Rattle.ply_head.specs.declared.element.Property.{Property};
 ghost use Rattle.ply_head.specs.Heads.{IsSkipped, IsSmall};
-ghost use Rattle.ply_body.specs.declared.fault.Flaw.{Flaw};
-ghost use Rattle.ply_body.specs.Items.{count_of, items_told, item_as, Refuses, Takes};
-ghost use Rattle.ply_body.specs.Bodies.{fan, fan_count, fault_of, is_too_many as has_too_many, row_count as rows_of};
-ghost use Rattle.ply_body.specs.Places.{before, begun, current as properties_before, faces_of, front_of, pass_one, passed, indices_kind, item_fault, front_read, tally, polygon_front, rest_of, Fails, Goes, HasNearCorners, IsBehind, IsCounted, IsEnded, IsPlaced, IsRowLayout, Moves, Walks, WalkEnds, WalkFails, IsNear, IsReach};
+ghost use Rattle.ply_body.specs.Bodies.{fault_of, row_count as rows_of};
+ghost use Rattle.ply_body.specs.Places.{before, begun, current as properties_before, faces_of, item_fault, tally, Fails, Goes, HasNearCorners, IsBehind, IsCounted, IsEnded, IsNear, IsPlaced, IsRowLayout, Moves, Walks, WalkEnds, WalkFails};
 
 use crate::fault::{BodyFault, Flaw};
 use crate::item_reader::{ItemFault, ItemReader};
-use ply_head::{Element, Kind, Property, Role};
+use crate::polygon::{Corners, Polygon, fan_size, is_too_many};
+use crate::row::{pass_all, read_front};
+use ply_head::{Element, Property};
 use tpz_io::Source;
-
-// The greatest number of triangles, dropped ones counted.
-const MOST_TRIS: u64 = 2_147_483_648;
-
-/// The corners of a triangle, by the numbers of their vertices.
-#[derive(Clone, Copy)]
-pub struct Corners {
-    pub i: u32,
-    pub j: u32,
-    pub k: u32,
-}
-
-/// A polygon of which some corners were read: how many, the first and the last of them, and how many are left.
-#[derive(Clone, Copy)]
-pub struct Polygon {
-    pub kind: Kind,
-    pub taken: u64,
-    pub first: u32,
-    pub last: u32,
-    pub left: u64,
-}
 
 /// A place in an element: how many rows were begun and how many follow, the polygon of the row at hand, and where the
 /// properties behind it begin, if they weren't read. `formed` triangles come from the rows before. `next` is the number
@@ -49,166 +25,8 @@ pub struct Place {
     pub next: usize,
 }
 
-// What was read of a row up to the count of its list of indices: the kind of these, their count, and where the
-// properties behind the list begin. A row without such a list has no corners and was read whole.
-#[derive(Clone, Copy)]
-struct Front {
-    kind: Kind,
-    count: u64,
-    behind: Option<usize>,
-}
-
-// How many triangles a polygon of so many corners forms.
-fn fan_size(corners: u64) -> u64
-    ensures { result ≡ fan_count corners }
-{
-    corners.saturating_sub(2)
-}
-
-// Whether the corner with this number would form a triangle too many.
-fn is_too_many(formed: u64, taken: u64) -> bool
-    requires formed { formed ≤ 2147483648 }
-    requires taken { taken < 9223372036854775808 }
-    ensures { result ≡ has_too_many formed taken }
-{
-    taken >= 2 && formed + (taken - 1) > MOST_TRIS
-}
-
-// The kind of the count, if it is the list of indices.
-fn kind_of_count(property: &Property) -> Option<Kind>
-    ensures { result ≡ indices_kind property.now }
-{
-    match property.role {
-        Role::Indices => property.count_kind,
-        _ => None,
-    }
-}
-
-// Takes the items of a property that aren't used.
-fn pass<I: Source>(items: &mut ItemReader, src: &mut I, property: &Property) -> Result<(), ItemFault>
-    ensures taken { OnOk result (option_map (pass_one property.now) (items_told items.old (I.left src.old)) ≡ option_map Ok (items_told items.new (I.left src.new))) }
-    ensures refused { (flaw : Flaw) → result ≡ Err (ItemFault.Flaw flaw) → Refuses (pass_one property.now) (items_told items.old (I.left src.old)) flaw }
-    ensures input { IsErrOf result ItemFault.Input → Rose (I.faults src.old) (I.faults src.new) }
-    ensures later { I.faults src.old ≤ I.faults src.new }
-{
-    let count_kind = match property.count_kind {
-        Some(count_kind) => count_kind,
-        None => return items.skip(src, property.kind, 1),
-    };
-    let count = items.count(src, count_kind)?;
-    items.skip(src, property.kind, count)
-}
-
-// Takes the items of properties that aren't used.
-fn pass_all<I: Source>(items: &mut ItemReader, src: &mut I, properties: &[Property]) -> Result<(), ItemFault>
-    ensures taken { OnOk result (option_map (passed properties.now) (items_told items.old (I.left src.old)) ≡ option_map Ok (items_told items.new (I.left src.new))) }
-    ensures refused { (flaw : Flaw) → result ≡ Err (ItemFault.Flaw flaw) → Refuses (passed properties.now) (items_told items.old (I.left src.old)) flaw }
-    ensures input { IsErrOf result ItemFault.Input → Rose (I.faults src.old) (I.faults src.new) }
-    ensures later { I.faults src.old ≤ I.faults src.new }
-{
-    'properties: for property in properties {
-        pass(items, src, property)?;
-    }
-    Ok(())
-}
-
-// Takes what stands in a row up to the count of its list of indices.
-fn read_front<I: Source>(items: &mut ItemReader, src: &mut I, properties: &[Property]) -> Result<Front, ItemFault>
-    requires { IsRowLayout properties.now }
-    ensures taken { IfOk result (λ front. Takes (front_of properties.now) (items_told items.old (I.left src.old)) (front_read front properties.now) (items_told items.new (I.left src.new))) }
-    ensures fits { IfOk result (λ front. (front.count < 9223372036854775808) × IsReach front.behind (length properties.now)) }
-    ensures behind { IfOk result (λ front. All IsSkipped (rest_of front.behind properties.now)) }
-    ensures plain { IfOk result (λ front. All IsSkipped properties.now → front.count ≡ 0) }
-    ensures refused { (flaw : Flaw) → result ≡ Err (ItemFault.Flaw flaw) → Refuses (front_of properties.now) (items_told items.old (I.left src.old)) flaw }
-    ensures input { IsErrOf result ItemFault.Input → Rose (I.faults src.old) (I.faults src.new) }
-    ensures later { I.faults src.old ≤ I.faults src.new }
-{
-    'front: for (at, property) in properties.iter().enumerate() {
-        if let Some(count_kind) = kind_of_count(property) {
-            return read_list(items, src, count_kind, property.kind, at + 1);
-        }
-        pass(items, src, property)?;
-    }
-    Ok(Front {
-        kind: Kind::U8,
-        count: 0,
-        behind: None,
-    })
-}
-
-// Takes the count of the list of indices, before the properties from a place on.
-fn read_list<I: Source>(items: &mut ItemReader, src: &mut I, count_kind: Kind, kind: Kind, behind: usize) -> Result<Front, ItemFault>
-    ensures taken { IfOk result (λ front. (front.kind ≡ kind) × (front.behind ≡ Some behind) × Takes (item_as count_of count_kind) (items_told items.old (I.left src.old)) front.count (items_told items.new (I.left src.new))) }
-    ensures fits { IfOk result (λ front. front.count < 9223372036854775808) }
-    ensures refused { (flaw : Flaw) → result ≡ Err (ItemFault.Flaw flaw) → Refuses (item_as count_of count_kind) (items_told items.old (I.left src.old)) flaw }
-    ensures input { IsErrOf result ItemFault.Input → Rose (I.faults src.old) (I.faults src.new) }
-    ensures later { I.faults src.old ≤ I.faults src.new }
-{
-    let count = items.count(src, count_kind)?;
-    Ok(Front {
-        kind,
-        count,
-        behind: Some(behind),
-    })
-}
-
-impl Polygon {
-    /// A polygon without corners.
-    pub fn none() -> Polygon
-        ensures { result ≡ record { kind = Kind.U8; taken = 0; first = 0; last = 0; left = 0 } }
-    {
-        Polygon {
-            kind: Kind::U8,
-            taken: 0,
-            first: 0,
-            last: 0,
-            left: 0,
-        }
-    }
-
-    /// Adds the next corner. From the third on each forms a triangle with the first and the last.
-    fn add(&mut self, corner: u32) -> Option<Corners>
-        requires left { 0 < self.old.left }
-        requires few { self.old.taken + self.old.left < 9223372036854775808 }
-        ensures fan { (more : List ℕ) → fan (polygon_front self.old ++ corner ∷ more) ≡ faces_of result ++ fan (polygon_front self.new ++ more) }
-        ensures kind { self.new.kind ≡ self.old.kind }
-        ensures taken { self.new.taken ≡ self.old.taken + 1 }
-        ensures left { self.old.left ≡ self.new.left + 1 }
-        ensures last { self.new.last ≡ corner }
-        ensures first { (self.new.first ≡ corner) ⊎ ((0 < self.old.taken) × (self.new.first ≡ self.old.first)) }
-        ensures formed { fan_count self.new.taken ≡ fan_count self.old.taken + length (faces_of result) }
-        ensures corners { IfSome result (λ face. (0 < self.old.taken) × (face.i ≡ self.old.first) × (face.j ≡ self.old.last) × (face.k ≡ corner)) }
-    {
-        let taken = self.taken;
-        let first = self.first;
-        let last = self.last;
-        self.taken += 1;
-        self.left -= 1;
-        self.last = corner;
-        if taken == 0 {
-            self.first = corner;
-            return None;
-        }
-        if taken == 1 {
-            return None;
-        }
-        Some(Corners {
-            i: first,
-            j: last,
-            k: corner,
-        })
-    }
-}
-
 impl Place {
-    /// Before the first element.
-    pub fn start() -> Place
-        ensures { result ≡ before 0 }
-    {
-        Place::before(0)
-    }
-
-    /// Before the element with this number, and behind those before it.
+    /// Before the element with this number.
     pub fn before(next: usize) -> Place
         ensures { result ≡ before next }
     {

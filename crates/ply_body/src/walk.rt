@@ -63,15 +63,12 @@ impl Walk {
         ensures held { B.held points.new ≡ B.held points.old }
     {
         'dropped: loop {
-            let corners = match self.place.next_face(&mut self.items, src, self.elements.as_slice(), self.vertices) {
-                Ok(Some(corners)) => corners,
-                Ok(None) => return Ok(None),
-                Err(fault) => return Err(fault),
+            let found = self.place.next_face(&mut self.items, src, self.elements.as_slice(), self.vertices)?;
+            let corners = match found {
+                Some(corners) => corners,
+                None => return Ok(None),
             };
-            let tri = match tri_of(&mut self.buffer, points, frame, corners) {
-                Ok(tri) => tri,
-                Err(fault) => return Err(fault),
-            };
+            let tri = tri_of(&mut self.buffer, points, frame, corners)?;
             if whole(&tri) {
                 return Ok(Some(tri));
             }

@@ -1,7 +1,7 @@
 use Rattle.std.proofs.Common.{◌≡◌, ap, Err}
 use Rattle.std.proofs.lemmas.Result.{err_from_is_err_and}
 use Rattle.ply_body.specs.declared.item_reader.ItemFault.TheVariants.{Flaw}
-use Rattle.ply_body.proofs.place.read_list.Goals as goal
+use Rattle.ply_body.proofs.row.read_list.Goals as goal
 
 pub returns-in_err-count-clause-refused : goal.returns-in_err-count-clause-refused
 returns-in_err-count-clause-refused g c = λ flaw is.

@@ -4,7 +4,7 @@ use Rattle.ply_body.specs.declared.item_reader.ItemFault.TheVariants.{Flaw}
 use Rattle.ply_body.specs.Places.{passed}
 use Rattle.ply_body.proofs.Binds.{same_refused}
 use Rattle.ply_body.proofs.Passing.{passed_refused}
-use Rattle.ply_body.proofs.place.pass_all.Goals as goal
+use Rattle.ply_body.proofs.row.pass_all.Goals as goal
 
 pub returns-in_err-pass-clause-refused : goal.returns-in_err-pass-clause-refused
 returns-in_err-pass-clause-refused g c = λ flaw is.

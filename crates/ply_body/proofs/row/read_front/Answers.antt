@@ -4,7 +4,7 @@ use Rattle.ply_body.specs.declared.item_reader.ItemFault.TheVariants.{Flaw}
 use Rattle.ply_body.specs.Places.{front_of}
 use Rattle.ply_body.proofs.Binds.{same_refused}
 use Rattle.ply_body.proofs.Passing.{behind_list, front_refused_at_list, front_refused_before}
-use Rattle.ply_body.proofs.place.read_front.Goals as goal
+use Rattle.ply_body.proofs.row.read_front.Goals as goal
 
 pub returns-in-Some-clause-refused : goal.returns-in-Some-clause-refused
 returns-in-Some-clause-refused g c = λ flaw is.
