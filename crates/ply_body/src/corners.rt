@@ -14,7 +14,12 @@ use tpz_base::{Point, Tri};
 use tpz_io::Blob;
 
 // The point of a corner. A vertex element without properties has no rows, and its vertices have the coordinates 0.
-fn point_of<B: Blob>(buffer: &mut PointBuffer, points: &mut B, frame: &Frame, number: u32) -> Result<Point, BodyFault>
+fn point_of<B: Blob>(
+    buffer: &mut PointBuffer,
+    points: &mut B,
+    frame: &Frame,
+    number: u32,
+) -> Result<Point, BodyFault>
     requires small { IsSmallFrame frame.now }
     requires points { ForSome (B.held points.old) (HoldsPoints frame.now) }
     ensures point { IfOk result (λ p. ForSome (B.held points.old) (λ bytes. (rows : List Row)
@@ -35,7 +40,12 @@ fn point_of<B: Blob>(buffer: &mut PointBuffer, points: &mut B, frame: &Frame, nu
 }
 
 /// The triangle of three corners.
-pub fn tri_of<B: Blob>(buffer: &mut PointBuffer, points: &mut B, frame: &Frame, corners: Corners) -> Result<Tri, BodyFault>
+pub fn tri_of<B: Blob>(
+    buffer: &mut PointBuffer,
+    points: &mut B,
+    frame: &Frame,
+    corners: Corners,
+) -> Result<Tri, BodyFault>
     requires small { IsSmallFrame frame.now }
     requires points { ForSome (B.held points.old) (HoldsPoints frame.now) }
     ensures tri { IfOk result (λ t. ForSome (B.held points.old) (λ bytes. (rows : List Row)

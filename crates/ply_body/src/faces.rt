@@ -15,9 +15,9 @@ ghost use Rattle.ply_body.specs.Readings.{coming_told, input_told, opened, with_
 use crate::fault::BodyFault;
 use crate::frame::Frame;
 use crate::item_reader::ItemReader;
-use crate::spots::PointBuffer;
 use crate::place::Place;
 use crate::points::load;
+use crate::spots::PointBuffer;
 use crate::walk::Walk;
 use ply_head::{Element, Head, Used};
 use std::alloc::{AllocError, Global};
@@ -97,7 +97,11 @@ impl Faces {
     /// Reads to the end of the used vertex element, and writes each point to the blob. It is the first call.
     ///
     /// An extent is tested when the last row of that element is read.
-    pub fn load_points<I: Source, B: Blob>(&mut self, src: &mut I, points: &mut B) -> Result<Frame, BodyFault>
+    pub fn load_points<I: Source, B: Blob>(
+        &mut self,
+        src: &mut I,
+        points: &mut B,
+    ) -> Result<Frame, BodyFault>
         requires { IsOpened self.old }
         // The rows that were read, the frame, and the triangles that are still to come:
         ensures rows { IfOk result (λ frame. (rows : List Row) × IsFrameOf frame rows
@@ -116,15 +120,22 @@ impl Faces {
         ensures small { IfOk result IsSmallFrame }
     {
         let walk = &mut self.walk;
-        match load(&mut walk.items, &mut walk.buffer, walk.elements.as_slice(), self.digits, src, points) {
+        match load(
+            &mut walk.items,
+            &mut walk.buffer,
+            walk.elements.as_slice(),
+            self.digits,
+            src,
+            points,
+        ) {
             Ok(loaded) => {
                 self.walk.place = Place::before(loaded.next);
                 self.frame = Some(loaded.frame);
                 Ok(loaded.frame)
             }
-            Err(fault) => {
-                self.refusal = Some(fault);
-                Err(fault)
+            Err(refusal) => {
+                self.refusal = Some(refusal);
+                Err(refusal)
             }
         }
     }
@@ -132,7 +143,12 @@ impl Faces {
     /// The next triangle that is whole, relative to `low`. None comes where all elements were read.
     ///
     /// The frame is the one that `load_points` gave, and the blob holds its points.
-    pub fn next_tri<I: Source, B: Blob>(&mut self, src: &mut I, frame: &Frame, points: &mut B) -> Result<Option<Tri>, BodyFault>
+    pub fn next_tri<I: Source, B: Blob>(
+        &mut self,
+        src: &mut I,
+        frame: &Frame,
+        points: &mut B,
+    ) -> Result<Option<Tri>, BodyFault>
         requires frame { (self.old.frame ≡ Some frame.now) ⊎ (self.old.refusal ≢ None) }
         requires points { ForSome (B.held points.old) (HoldsPoints frame.now) }
         ensures tri { (t : Tri) → result ≡ Ok (Some t) → (lost : List Face) × (face : Face)

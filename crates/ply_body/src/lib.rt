@@ -1,8 +1,8 @@
 //! The rows of a PLY input: its points, kept in a blob, and its triangles, one after another.
 #![tactic(auto)]
 
-mod faces;
 mod corners;
+mod faces;
 mod fault;
 mod frame;
 mod item_reader;

@@ -54,7 +54,12 @@ impl Place {
     }
 
     // Takes the next corner of the polygon.
-    fn next_corner<I: Source>(&mut self, items: &mut ItemReader, src: &mut I, vertices: u64) -> Result<Option<Corners>, BodyFault>
+    fn next_corner<I: Source>(
+        &mut self,
+        items: &mut ItemReader,
+        src: &mut I,
+        vertices: u64,
+    ) -> Result<Option<Corners>, BodyFault>
         requires left { 0 < self.old.polygon.left }
         requires vertices { vertices ≤ 2147483648 }
         requires counted { IsCounted self.old }
@@ -78,7 +83,12 @@ impl Place {
     }
 
     // Takes what is left of the row behind its polygon.
-    fn end_row<I: Source>(&mut self, items: &mut ItemReader, src: &mut I, properties: &[Property]) -> Result<(), BodyFault>
+    fn end_row<I: Source>(
+        &mut self,
+        items: &mut ItemReader,
+        src: &mut I,
+        properties: &[Property],
+    ) -> Result<(), BodyFault>
         requires polygon { self.old.polygon.left ≡ 0 }
         requires counted { IsCounted self.old }
         requires behind { IsBehind properties.now self.old }
@@ -101,7 +111,12 @@ impl Place {
     }
 
     // Goes to the next row, and takes it up to its polygon.
-    fn begin_row<I: Source>(&mut self, items: &mut ItemReader, src: &mut I, properties: &[Property]) -> Result<(), BodyFault>
+    fn begin_row<I: Source>(
+        &mut self,
+        items: &mut ItemReader,
+        src: &mut I,
+        properties: &[Property],
+    ) -> Result<(), BodyFault>
         requires ended { IsEnded self.old }
         requires left { 0 < self.old.left }
         requires counted { IsCounted self.old }
@@ -133,7 +148,13 @@ impl Place {
     }
 
     // The next triangle of the row at hand. Without one the row is taken to its end.
-    fn face_in_row<I: Source>(&mut self, items: &mut ItemReader, src: &mut I, properties: &[Property], vertices: u64) -> Result<Option<Corners>, BodyFault>
+    fn face_in_row<I: Source>(
+        &mut self,
+        items: &mut ItemReader,
+        src: &mut I,
+        properties: &[Property],
+        vertices: u64,
+    ) -> Result<Option<Corners>, BodyFault>
         requires vertices { vertices ≤ 2147483648 }
         requires counted { IsCounted self.old }
         requires corners { HasNearCorners vertices self.old }
@@ -157,7 +178,13 @@ impl Place {
     }
 
     // The next triangle of the rows that are left of the element.
-    fn face_in_element<I: Source>(&mut self, items: &mut ItemReader, src: &mut I, properties: &[Property], vertices: u64) -> Result<Option<Corners>, BodyFault>
+    fn face_in_element<I: Source>(
+        &mut self,
+        items: &mut ItemReader,
+        src: &mut I,
+        properties: &[Property],
+        vertices: u64,
+    ) -> Result<Option<Corners>, BodyFault>
         requires vertices { vertices ≤ 2147483648 }
         requires counted { IsCounted self.old }
         requires corners { HasNearCorners vertices self.old }
@@ -198,7 +225,13 @@ impl Place {
     }
 
     /// The next triangle of the elements that are left.
-    pub fn next_face<I: Source>(&mut self, items: &mut ItemReader, src: &mut I, elements: &[Element], vertices: u64) -> Result<Option<Corners>, BodyFault>
+    pub fn next_face<I: Source>(
+        &mut self,
+        items: &mut ItemReader,
+        src: &mut I,
+        elements: &[Element],
+        vertices: u64,
+    ) -> Result<Option<Corners>, BodyFault>
         requires vertices { vertices ≤ 2147483648 }
         requires small { IsSmall elements.now }
         requires placed { IsPlaced vertices elements.now self.old }

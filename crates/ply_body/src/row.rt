@@ -32,7 +32,11 @@ fn kind_of_count(property: &Property) -> Option<Kind>
 }
 
 // Takes the items of a property that aren't used.
-fn pass<I: Source>(items: &mut ItemReader, src: &mut I, property: &Property) -> Result<(), ItemFault>
+fn pass<I: Source>(
+    items: &mut ItemReader,
+    src: &mut I,
+    property: &Property,
+) -> Result<(), ItemFault>
     ensures taken { OnOk result (option_map (pass_one property.now) (items_told items.old (I.left src.old)) ≡ option_map Ok (items_told items.new (I.left src.new))) }
     ensures refused { (flaw : Flaw) → result ≡ Err (ItemFault.Flaw flaw) → Refuses (pass_one property.now) (items_told items.old (I.left src.old)) flaw }
     ensures input { IsErrOf result ItemFault.Input → Rose (I.faults src.old) (I.faults src.new) }
@@ -47,7 +51,11 @@ fn pass<I: Source>(items: &mut ItemReader, src: &mut I, property: &Property) -> 
 }
 
 /// Takes the items of properties that aren't used.
-pub fn pass_all<I: Source>(items: &mut ItemReader, src: &mut I, properties: &[Property]) -> Result<(), ItemFault>
+pub fn pass_all<I: Source>(
+    items: &mut ItemReader,
+    src: &mut I,
+    properties: &[Property],
+) -> Result<(), ItemFault>
     ensures taken { OnOk result (option_map (passed properties.now) (items_told items.old (I.left src.old)) ≡ option_map Ok (items_told items.new (I.left src.new))) }
     ensures refused { (flaw : Flaw) → result ≡ Err (ItemFault.Flaw flaw) → Refuses (passed properties.now) (items_told items.old (I.left src.old)) flaw }
     ensures input { IsErrOf result ItemFault.Input → Rose (I.faults src.old) (I.faults src.new) }
@@ -60,7 +68,11 @@ pub fn pass_all<I: Source>(items: &mut ItemReader, src: &mut I, properties: &[Pr
 }
 
 /// Takes what stands in a row up to the count of its list of indices.
-pub fn read_front<I: Source>(items: &mut ItemReader, src: &mut I, properties: &[Property]) -> Result<Front, ItemFault>
+pub fn read_front<I: Source>(
+    items: &mut ItemReader,
+    src: &mut I,
+    properties: &[Property],
+) -> Result<Front, ItemFault>
     requires { IsRowLayout properties.now }
     ensures taken { IfOk result (λ front. Takes (front_of properties.now) (items_told items.old (I.left src.old)) (front_read front properties.now) (items_told items.new (I.left src.new))) }
     ensures fits { IfOk result (λ front. (front.count < 9223372036854775808) × IsReach front.behind (length properties.now)) }
@@ -84,7 +96,13 @@ pub fn read_front<I: Source>(items: &mut ItemReader, src: &mut I, properties: &[
 }
 
 // Takes the count of the list of indices, before the properties from a place on.
-fn read_list<I: Source>(items: &mut ItemReader, src: &mut I, count_kind: Kind, kind: Kind, behind: usize) -> Result<Front, ItemFault>
+fn read_list<I: Source>(
+    items: &mut ItemReader,
+    src: &mut I,
+    count_kind: Kind,
+    kind: Kind,
+    behind: usize,
+) -> Result<Front, ItemFault>
     ensures taken { IfOk result (λ front. (front.kind ≡ kind) × (front.behind ≡ Some behind) × Takes (item_as count_of count_kind) (items_told items.old (I.left src.old)) front.count (items_told items.new (I.left src.new))) }
     ensures fits { IfOk result (λ front. front.count < 9223372036854775808) }
     ensures refused { (flaw : Flaw) → result ≡ Err (ItemFault.Flaw flaw) → Refuses (item_as count_of count_kind) (items_told items.old (I.left src.old)) flaw }

@@ -44,9 +44,13 @@ pub returns-then-whole-clause-tri : goal.returns-then-whole-clause-tri
 returns-then-whole-clause-tri g c = λ t is.
     let it = c.dropped.invariant in
     let walks = rw (c.as_slice.ensures.value, it.elements, it.vertices, c.in-Some.is) at c.in_ok-found.ensures.walks in
-    let same : c.in_ok-tri.tri ≡ t = cc in
-    (it.lost.0, face_of c.in-Some.corners, both_walks it.lost.1 walks, it.lost.2,
-        λ bytes told rows frame holds. (it.lost.3.broken bytes told rows frame holds, sym same ∙ c.in_ok-tri.ensures.tri bytes (it.held ∙ told) rows frame holds))
+    let same : c.in_ok-tri.tri ≡ t = cc in (
+      it.lost.0,
+      face_of c.in-Some.corners,
+      both_walks it.lost.1 walks,
+      it.lost.2,
+      λ bytes told rows frame holds. (it.lost.3.broken bytes told rows frame holds, sym same ∙ c.in_ok-tri.ensures.tri bytes (it.held ∙ told) rows frame holds),
+    )
 
 pub dropped-preserved : goal.dropped-preserved
 dropped-preserved g c =
@@ -57,10 +61,15 @@ dropped-preserved g c =
     let tally = rw c.in-Some.is at c.in_ok-found.ensures.tally in
     let broken : is_whole c.in_ok-tri.tri ≡ false = search rules in
     record {
-      lost = (it.lost.0 ++ face ∷ [], both_walks it.lost.1 walks, omega (arith, it.lost.2, length_push it.lost.0 face), record {
-        broken = λ bytes told rows frame holds. All-push (λ (f : Face). is_whole (triangle_at (points_of rows) f) ≡ false) it.lost.0 face
-            (it.lost.3.broken bytes told rows frame holds) (ap is_whole (sym (c.in_ok-tri.ensures.tri bytes (it.held ∙ told) rows frame holds)) ∙ broken);
-      });
+      lost = (
+        it.lost.0 ++ face ∷ [],
+        both_walks it.lost.1 walks,
+        omega (arith, it.lost.2, length_push it.lost.0 face),
+        record {
+          broken = λ bytes told rows frame holds. All-push (λ (f : Face). is_whole (triangle_at (points_of rows) f) ≡ false) it.lost.0 face
+              (it.lost.3.broken bytes told rows frame holds) (ap is_whole (sym (c.in_ok-tri.ensures.tri bytes (it.held ∙ told) rows frame holds)) ∙ broken);
+        },
+      );
       elements = it.elements;
       vertices = it.vertices;
       placed = placed;
