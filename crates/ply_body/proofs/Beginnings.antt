@@ -39,7 +39,7 @@ same_rows s e ps r f g zero items skip = refl
 same_rows s e ps r f g (suc n) items skip =
     first_skipped s e ps r f n items skip
     ∙ (bind_same (placed e r (passed ps items)) (λ rest. rows s e ps (suc r) (f + 0) n rest >>= onto_rows) (λ rest. rows s e ps (suc r) (g + 0) n rest >>= onto_rows)
-        (λ rest is. ap (λ (q : Result (List RowItems × Items) BodyFault). q >>= onto_rows) (same_rows s e ps (suc r) (f + 0) (g + 0) n rest skip))
+    (λ rest is. ap (λ (q : Result (List RowItems × Items) BodyFault). q >>= onto_rows) (same_rows s e ps (suc r) (f + 0) (g + 0) n rest skip))
     ∙ sym (first_skipped s e ps r g n items skip))
 
 -- and form none.
@@ -65,7 +65,7 @@ seen_before s e (el ∷ els) seen items other =
     rw here.used
     (bind_assoc them (λ us. elements s (suc e) els seen us.1) (faces_behind [])
     ∙ (bind_same them (λ us. elements s (suc e) els seen us.1 >>= faces_behind []) (λ us. elements s (suc e) els no_input us.1 >>= faces_behind seen.faces)
-        (λ us is. seen_before s (suc e) els seen us.1 (All-tail IsOther el els other))
+    (λ us is. seen_before s (suc e) els seen us.1 (All-tail IsOther el els other))
     ∙ sym (bind_assoc them (λ us. elements s (suc e) els no_input us.1) (faces_behind seen.faces))))
 
 -- the next element

@@ -63,10 +63,10 @@ corner_step s p q ps all row left formed next es items rest i fs kind taken less
     let n : p.taken + suc q.left ≡ q.taken + q.left = omega arith in
     rw (l, read, few, kind, ← t, n)
     (corner_bind (next - 1) (row - 1) (corners s p.kind formed q.taken q.left rest) i fs
-        (behind_corners s ps row left formed all next es (q.taken + q.left) (front p))
-        (behind_corners s ps row left formed all next es (q.taken + q.left) (front q))
-        (λ x. with_bind fs (placed (next - 1) (row - 1) (with_properties s formed ps nothing_used x.1)) _ _
-        (λ after. finish_with s (next - 1) all row (formed + fan_count (q.taken + q.left)) left next es fs _ _ after.1 (fans_are x.0))))
+    (behind_corners s ps row left formed all next es (q.taken + q.left) (front p))
+    (behind_corners s ps row left formed all next es (q.taken + q.left) (front q))
+    (λ x. with_bind fs (placed (next - 1) (row - 1) (with_properties s formed ps nothing_used x.1)) _ _
+    (λ after. finish_with s (next - 1) all row (formed + fan_count (q.taken + q.left)) left next es fs _ _ after.1 (fans_are x.0))))
 
 pub corner_refused : (s : Setting) (p : Polygon) (ps all : List Property) (row left formed next less : ℕ) (es : List Element) (items : Items) (flaw : Flaw)
     → p.left ≡ less + 1 → item_as (index_of s.vertices) p.kind items ≡ Err flaw
@@ -107,12 +107,12 @@ indices_row s formed ix behind k items role is skip =
     rw (role, is)
     (bind_assoc (item_as count_of k items) (λ n. list_of s formed Indices ix.kind n.0 nothing_used n.1) (λ v. with_properties s formed behind v.0 v.1)
     ∙ (bind_same (item_as count_of k items)
-        (λ n. list_of s formed Indices ix.kind n.0 nothing_used n.1 >>= λ v. with_properties s formed behind v.0 v.1)
-        (λ n. behind_front s formed (row_list ix.kind n.0 behind, n.1))
-        (λ n here. bind_assoc (corners s ix.kind formed 0 n.0 n.1) (λ c. Ok (with_corners c.0, c.1)) (λ v. with_properties s formed behind v.0 v.1)
-        ∙ bind_same (corners s ix.kind formed 0 n.0 n.1) (λ c. with_properties s formed behind (with_corners c.0) c.1)
-            (λ c. passed behind c.1 >>= λ rest. Ok (with_corners c.0, rest))
-            (λ c there. skips_all s formed behind (with_corners c.0) c.1 skip))
+    (λ n. list_of s formed Indices ix.kind n.0 nothing_used n.1 >>= λ v. with_properties s formed behind v.0 v.1)
+    (λ n. behind_front s formed (row_list ix.kind n.0 behind, n.1))
+    (λ n here. bind_assoc (corners s ix.kind formed 0 n.0 n.1) (λ c. Ok (with_corners c.0, c.1)) (λ v. with_properties s formed behind v.0 v.1)
+    ∙ bind_same (corners s ix.kind formed 0 n.0 n.1) (λ c. with_properties s formed behind (with_corners c.0) c.1)
+    (λ c. passed behind c.1 >>= λ rest. Ok (with_corners c.0, rest))
+    (λ c there. skips_all s formed behind (with_corners c.0) c.1 skip))
     ∙ sym (bind_assoc (item_as count_of k items) (λ n. Ok (row_list ix.kind n.0 behind, n.1)) (behind_front s formed))))
 
 -- A row is its front, the corners of its polygon, and what comes behind.
@@ -125,12 +125,16 @@ front_row s formed all items (inr it) = by_kind it.indices.count_kind refl where
   by_kind : (k : Option Kind) → it.indices.count_kind ≡ k → with_properties s formed all nothing_used items ≡ (front_of all items >>= behind_front s formed)
   by_kind None is = absurd (it.list is)
   by_kind (Some k) is =
-      rw (it.properties, both_properties s formed it.before (it.indices ∷ it.behind) nothing_used items, skips_all s formed it.before nothing_used items it.before_skipped,
-          front_behind it.before (it.indices ∷ it.behind) items it.before_skipped)
+      rw (
+        it.properties,
+        both_properties s formed it.before (it.indices ∷ it.behind) nothing_used items,
+        skips_all s formed it.before nothing_used items it.before_skipped,
+        front_behind it.before (it.indices ∷ it.behind) items it.before_skipped,
+      )
       (bind_assoc (passed it.before items) (λ rest. Ok (nothing_used, rest)) (λ v. with_properties s formed (it.indices ∷ it.behind) v.0 v.1)
       ∙ (bind_same (passed it.before items) (λ rest. with_properties s formed (it.indices ∷ it.behind) nothing_used rest)
-          (λ rest. front_of (it.indices ∷ it.behind) rest >>= behind_front s formed)
-          (λ rest here. indices_row s formed it.indices it.behind k rest it.role is it.behind_skipped)
+      (λ rest. front_of (it.indices ∷ it.behind) rest >>= behind_front s formed)
+      (λ rest here. indices_row s formed it.indices it.behind k rest it.role is it.behind_skipped)
       ∙ sym (bind_assoc (passed it.before items) (λ rest. front_of (it.indices ∷ it.behind) rest) (behind_front s formed))))
 
 front_at_list : (ix : Property) (behind : List Property) (k : Kind) (items : Items) → ix.role ≡ Indices → ix.count_kind ≡ Some k

@@ -53,9 +53,9 @@ spots_before s es next rows (Some items) = refl
 pub loaded_told : (r : Inside) (place : Place) (next : ℕ) (rows : List Row) (old new : Option Items)
     → r.walk.place.next ≡ 0 → r.walk.vertices ≡ vertex_count r.walk.elements.items → place ≡ before next
     → option_map (elements (setting_of r.walk.elements.items r.digits) 0 r.walk.elements.items no_input) old
-      ≡ option_map (λ (rest : Items). with_spots rows (faces_from (setting_of r.walk.elements.items r.digits) next (drop next r.walk.elements.items) rest)) new
+    ≡ option_map (λ (rest : Items). with_spots rows (faces_from (setting_of r.walk.elements.items r.digits) next (drop next r.walk.elements.items) rest)) new
     → option_map (elements (reading_of r).setting (reading_of r).cursor.next (reading_of r).cursor.behind no_input) old
-      ≡ option_map (with_spots rows) (option_map (coming (reading_of r).setting (cursor_of place r.walk.elements.items)) new)
+    ≡ option_map (with_spots rows) (option_map (coming (reading_of r).setting (cursor_of place r.walk.elements.items)) new)
 loaded_told r place next rows old new zero_next vertices at told =
     rw (zero_next, vertices, at) (told ∙ spots_before (setting_of r.walk.elements.items r.digits) r.walk.elements.items next rows new)
 
@@ -75,6 +75,7 @@ within es next rest = by_case (cases_lt next (length es)) where
   by_between : (between : List Element) (face : Element) (behind : List Element) → [] ≡ between ++ face ∷ behind → ⊥
   by_between [] face behind is = cc
   by_between (b ∷ bs) face behind is = cc
+
   by_case : (next < length es) ⊎ (length es ≤ next) → next < length es
   by_case (inl h) = h
   by_case (inr h) = absurd (by_between rest.between rest.face rest.behind (sym (drop_all next es h) ∙ rest.order))

@@ -39,7 +39,7 @@ skips_all s formed (p ∷ ps) u items skip =
     rw (skips_property s formed p u items (All-head IsSkipped p ps skip))
     (bind_assoc (pass_one p items) (λ rest. Ok (u, rest)) (λ v. with_properties s formed ps v.0 v.1)
     ∙ (bind_same (pass_one p items) (λ rest. with_properties s formed ps u rest) (λ rest. passed ps rest >>= λ r. Ok (u, r))
-        (λ rest is. skips_all s formed ps u rest (All-tail IsSkipped p ps skip))
+    (λ rest is. skips_all s formed ps u rest (All-tail IsSkipped p ps skip))
     ∙ sym (bind_assoc (pass_one p items) (λ rest. passed ps rest) (λ r. Ok (u, r)))))
 
 -- properties one after another
@@ -48,8 +48,8 @@ pub both_properties : (s : Setting) (formed : ℕ) (ps qs : List Property) (u : 
 both_properties s formed [] qs u items = refl
 both_properties s formed (p ∷ ps) qs u items =
     bind_same (with_property s formed p u items) (λ v. with_properties s formed (ps ++ qs) v.0 v.1)
-        (λ v. with_properties s formed ps v.0 v.1 >>= λ w. with_properties s formed qs w.0 w.1)
-        (λ v is. both_properties s formed ps qs v.0 v.1)
+    (λ v. with_properties s formed ps v.0 v.1 >>= λ w. with_properties s formed qs w.0 w.1)
+    (λ v is. both_properties s formed ps qs v.0 v.1)
     ∙ sym (bind_assoc (with_property s formed p u items) (λ v. with_properties s formed ps v.0 v.1) (λ w. with_properties s formed qs w.0 w.1))
 
 -- a front of properties that aren't used
@@ -60,7 +60,7 @@ front_behind (p ∷ ps) qs items skip =
     let skips = All-head IsSkipped p ps skip in
     rw skips
     (bind_same (pass_one p items) (λ rest. front_of (ps ++ qs) rest) (λ rest. passed ps rest >>= λ r. front_of qs r)
-        (λ rest is. front_behind ps qs rest (All-tail IsSkipped p ps skip))
+    (λ rest is. front_behind ps qs rest (All-tail IsSkipped p ps skip))
     ∙ sym (bind_assoc (pass_one p items) (λ rest. passed ps rest) (λ r. front_of qs r)))
 
 pub front_refused_at_list : (ps : List Property) (i : ℕ) (k : Kind) (x : Items) (flaw : Flaw) → i < length ps → Some k ≡ indices_kind (get_or ps i no_property)

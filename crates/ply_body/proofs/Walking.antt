@@ -12,7 +12,7 @@ use Rattle.ply_head.specs.Heads.{IsSkipped, IsOther, IsFaceElement, IsSmall}
 use Rattle.ply_body.specs.declared.fault.BodyFault.{BodyFault}
 use Rattle.ply_body.specs.declared.fault.BodyFault.TheVariants.{InputFault, WorkFault, WorkDamage}
 use Rattle.ply_body.specs.declared.fault.BodyFault.TheVariants as fault
-use Rattle.ply_body.specs.declared.place.Corners.{Corners}
+use Rattle.ply_body.specs.declared.polygon.Corners.{Corners}
 use Rattle.ply_body.specs.declared.place.Place.{Place}
 use Rattle.ply_body.specs.Items.{Items, ItemPlace, items_told}
 use Rattle.ply_body.specs.Bodies.{Setting, row_count}
@@ -25,10 +25,11 @@ use Rattle.ply_body.proofs.Coming.{at_end}
 -- A step in an element is a step in the elements.
 pub walks : {v : ℕ} {p p' : Place} {i i' : ItemPlace} {l l' : Option Bytes} {fs : List Face} (es : List Element)
     → Moves v (current p.next es) p i l p' i' l' fs → p'.next ≡ p.next → Walks v es p i l p' i' l' fs
-walks {v} {p} {p'} {i} {i'} {l} {l'} {fs} es moves same = record { told = λ s is.
-    subst (λ (n : ℕ). coming_of s es p i l ≡ option_map (with_faces fs) (option_map (coming s (cursor_at p' (current n es) (drop n es))) (items_told i' l')))
-    (sym same) (moves.told s (drop p.next es) is)
-  }
+walks {v} {p} {p'} {i} {i'} {l} {l'} {fs} es moves same = record {
+  told = λ s is.
+      subst (λ (n : ℕ). coming_of s es p i l ≡ option_map (with_faces fs) (option_map (coming s (cursor_at p' (current n es) (drop n es))) (items_told i' l')))
+      (sym same) (moves.told s (drop p.next es) is);
+}
 
 pub walk_fails : {v : ℕ} {p : Place} {i : ItemPlace} {l : Option Bytes} {before now : ℕ} {f : BodyFault} (es : List Element)
     → Fails v (current p.next es) p i l before now f → WalkFails v es p i l before now f
@@ -79,8 +80,10 @@ next_kind el es [] face behind is between_other face_used behind_other =
 next_kind el es (b ∷ bs) face behind is between_other face_used behind_other =
     let e : el ≡ b = cc in
     let e' : es ≡ bs ++ face ∷ behind = cc in
-    inl (subst IsOther (sym e) (All-head IsOther b bs between_other),
-        record { between = bs; face = face; behind = behind; order = e'; between_other = All-tail IsOther b bs between_other; face_used = face_used; behind_other = behind_other })
+    inl (
+      subst IsOther (sym e) (All-head IsOther b bs between_other),
+      record { between = bs; face = face; behind = behind; order = e'; between_other = All-tail IsOther b bs between_other; face_used = face_used; behind_other = behind_other },
+    )
 
 -- an element that begins
 pub record Begins (v : ℕ) (es : List Element) (p : Place) (el : Element) : Type 0 where
@@ -128,18 +131,24 @@ module _ (v : ℕ) (es : List Element) (p : Place) (el : Element) (small : IsSma
   begins_other other order = begins_so (inl other.properties) order
       (λ s items. rw (ended.behind, done, here, its)
       (begin_other s (polygon_of p.polygon) (polygon_of (begun p el).polygon) (current p.next es) p.row p.formed (tally p) p.next el (drop (p.next + 1) es) items
-          ended.polygon refl refl other))
+      ended.polygon refl refl other))
 
   begins_face : IsFaceElement el → All IsOther (drop (p.next + 1) es) → tally p ≡ 0 → Begins v es p el
   begins_face face other none = begins_so
       (inr (record {
-        before = face.front; indices = face.indices; behind = face.behind; properties = face.properties; before_skipped = face.front_skipped; behind_skipped = face.behind_skipped;
-        role = face.role; list = face.list;
+        before = face.front;
+        indices = face.indices;
+        behind = face.behind;
+        properties = face.properties;
+        before_skipped = face.front_skipped;
+        behind_skipped = face.behind_skipped;
+        role = face.role;
+        list = face.list;
       }))
       (inr other)
       (λ s items. rw (ended.behind, done, here, its)
       (begin_face s (polygon_of p.polygon) (polygon_of (begun p el).polygon) (current p.next es) p.row p.formed (tally p) p.next el (drop (p.next + 1) es) items
-          ended.polygon refl refl face other none))
+      ended.polygon refl refl face other none))
 
   pub begins : Begins v es p el
   begins = by_order it.order where
@@ -149,9 +158,9 @@ module _ (v : ℕ) (es : List Element) (p : Place) (el : Element) (small : IsSma
         begins_other (All-head IsOther el (drop (p.next + 1) es) all) (inr (All-tail IsOther el (drop (p.next + 1) es) all))
     by_order (inl before) = by_kind (next_kind el (drop (p.next + 1) es) before.rest.between before.rest.face before.rest.behind (sym here ∙ before.rest.order)
         before.rest.between_other before.rest.face_used before.rest.behind_other) where
-      by_kind : (IsOther el × IsRest (drop (p.next + 1) es)) ⊎ (IsFaceElement el × All IsOther (drop (p.next + 1) es)) → Begins v es p el
-      by_kind (inl k) = begins_other k.0 (inl (record { rest = k.1; tally = omega (arith, before.tally); polygon = refl; plain = λ some. rw its k.0.properties }))
-      by_kind (inr k) = begins_face k.0 k.1 before.tally
+          by_kind : (IsOther el × IsRest (drop (p.next + 1) es)) ⊎ (IsFaceElement el × All IsOther (drop (p.next + 1) es)) → Begins v es p el
+          by_kind (inl k) = begins_other k.0 (inl (record { rest = k.1; tally = omega (arith, before.tally); polygon = refl; plain = λ some. rw its k.0.properties }))
+          by_kind (inr k) = begins_face k.0 k.1 before.tally
 
 -- at the end no face comes
 pub walks_out : (v : ℕ) (es : List Element) (p : Place) (i : ItemPlace) (l : Option Bytes) → IsEnded p → p.left ≡ 0 → p.next ≡ length es → WalkEnds v es p i l []

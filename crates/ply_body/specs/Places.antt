@@ -18,10 +18,10 @@ use Rattle.ply_body.specs.declared.fault.BodyFault.{BodyFault}
 use Rattle.ply_body.specs.declared.fault.BodyFault.TheVariants.{InputFault, WorkFault, WorkDamage}
 use Rattle.ply_body.specs.declared.item_reader.ItemFault.{ItemFault}
 use Rattle.ply_body.specs.declared.item_reader.ItemFault.TheVariants as item_faults
-use Rattle.ply_body.specs.declared.place.Corners.{Corners}
-use Rattle.ply_body.specs.declared.place.Polygon.{Polygon as CodePolygon}
+use Rattle.ply_body.specs.declared.polygon.Corners.{Corners}
+use Rattle.ply_body.specs.declared.polygon.Polygon.{Polygon as CodePolygon}
 use Rattle.ply_body.specs.declared.place.Place.{Place}
-use Rattle.ply_body.specs.declared.place.Front.{Front}
+use Rattle.ply_body.specs.declared.face_row.Front.{Front}
 use Rattle.ply_body.specs.Items.{◌>>=◌, Items, ItemPlace, items_told, item_as, count_of, skipped}
 use Rattle.ply_body.specs.Bodies.{Setting, fan_count, fault_of, row_count}
 use Rattle.ply_body.specs.declared.frame.Frame.{Frame}

@@ -8,13 +8,18 @@ ghost use Rattle.ply_body.specs.Places.{face_of, IsWorkReason};
 
 use crate::fault::BodyFault;
 use crate::frame::Frame;
-use crate::place::Corners;
+use crate::polygon::Corners;
 use crate::spots::{PointBuffer, PointFault};
 use tpz_base::{Point, Tri};
 use tpz_io::Blob;
 
 // The point of a corner. A vertex element without properties has no rows, and its vertices have the coordinates 0.
-fn point_of<B: Blob>(buffer: &mut PointBuffer, points: &mut B, frame: &Frame, number: u32) -> Result<Point, BodyFault>
+fn point_of<B: Blob>(
+    buffer: &mut PointBuffer,
+    points: &mut B,
+    frame: &Frame,
+    number: u32,
+) -> Result<Point, BodyFault>
     requires small { IsSmallFrame frame.now }
     requires points { ForSome (B.held points.old) (HoldsPoints frame.now) }
     ensures point { IfOk result (λ p. ForSome (B.held points.old) (λ bytes. (rows : List Row)
@@ -35,7 +40,12 @@ fn point_of<B: Blob>(buffer: &mut PointBuffer, points: &mut B, frame: &Frame, nu
 }
 
 /// The triangle of three corners.
-pub fn tri_of<B: Blob>(buffer: &mut PointBuffer, points: &mut B, frame: &Frame, corners: Corners) -> Result<Tri, BodyFault>
+pub fn tri_of<B: Blob>(
+    buffer: &mut PointBuffer,
+    points: &mut B,
+    frame: &Frame,
+    corners: Corners,
+) -> Result<Tri, BodyFault>
     requires small { IsSmallFrame frame.now }
     requires points { ForSome (B.held points.old) (HoldsPoints frame.now) }
     ensures tri { IfOk result (λ t. ForSome (B.held points.old) (λ bytes. (rows : List Row)
@@ -45,16 +55,8 @@ pub fn tri_of<B: Blob>(buffer: &mut PointBuffer, points: &mut B, frame: &Frame, 
     ensures held { B.held points.new ≡ B.held points.old }
     ensures later { B.faults points.old ≤ B.faults points.new }
 {
-    let a = match point_of(buffer, points, frame, corners.i) {
-        Ok(point) => point,
-        Err(fault) => return Err(fault),
-    };
-    let b = match point_of(buffer, points, frame, corners.j) {
-        Ok(point) => point,
-        Err(fault) => return Err(fault),
-    };
-    match point_of(buffer, points, frame, corners.k) {
-        Ok(c) => Ok(Tri { a, b, c }),
-        Err(fault) => Err(fault),
-    }
+    let a = point_of(buffer, points, frame, corners.i)?;
+    let b = point_of(buffer, points, frame, corners.j)?;
+    let c = point_of(buffer, points, frame, corners.k)?;
+    Ok(Tri { a, b, c })
 }

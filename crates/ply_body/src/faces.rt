@@ -15,9 +15,9 @@ ghost use Rattle.ply_body.specs.Readings.{coming_told, input_told, opened, with_
 use crate::fault::BodyFault;
 use crate::frame::Frame;
 use crate::item_reader::ItemReader;
-use crate::spots::PointBuffer;
 use crate::place::Place;
 use crate::points::load;
+use crate::spots::PointBuffer;
 use crate::walk::Walk;
 use ply_head::{Element, Head, Used};
 use std::alloc::{AllocError, Global};
@@ -84,7 +84,7 @@ impl Faces {
                 buffer,
                 elements: parts.elements,
                 vertices,
-                place: Place::start(),
+                place: Place::before(0),
                 dropped: 0,
             },
             digits,
@@ -120,15 +120,22 @@ impl Faces {
         ensures small { IfOk result IsSmallFrame }
     {
         let walk = &mut self.walk;
-        match load(&mut walk.items, &mut walk.buffer, walk.elements.as_slice(), self.digits, src, points) {
+        match load(
+            &mut walk.items,
+            &mut walk.buffer,
+            walk.elements.as_slice(),
+            self.digits,
+            src,
+            points,
+        ) {
             Ok(loaded) => {
                 self.walk.place = Place::before(loaded.next);
                 self.frame = Some(loaded.frame);
                 Ok(loaded.frame)
             }
-            Err(fault) => {
-                self.refusal = Some(fault);
-                Err(fault)
+            Err(refusal) => {
+                self.refusal = Some(refusal);
+                Err(refusal)
             }
         }
     }

@@ -2,6 +2,7 @@
 #![tactic(auto)]
 
 mod corners;
+mod face_row;
 mod faces;
 mod fault;
 mod field;
@@ -14,6 +15,7 @@ mod item_tests;
 mod meaning;
 mod place;
 mod points;
+mod polygon;
 mod row;
 mod spots;
 #[cfg(test)]

@@ -1,40 +1,16 @@
-// A place in the rows of an element, and the steps from one to the next.
-ghost use Rattle.std.specs.Prelude.{All, ◌≡◌, ◌⊎◌, ◌≤◌, ◌<◌, ◌+◌, ◌-◌, ◌^◌, ◌∷◌, ◌++◌, [], ℕ, List, length, Err, Ok, Some, None, IfOk, IfErr, IfSome, OnOk, IsErrOf};
-ghost use Rattle.std.specs.Option.{option_map};
-ghost use Rattle.tpz_io.specs.Causes.{Rose};
-ghost use Rattle.ply_head.specs.declared.element.Element.{Element};
+// A place in the elements, and the steps from one to the next.
+ghost use Rattle.std.specs.Prelude.{All, ◌≡◌, ◌≤◌, ◌<◌, ◌+◌, ◌-◌, [], ℕ, List, length, Ok, None, IfOk, IfErr, IfSome, OnOk};
 ghost use Rattle.ply_head.specs.declared.element.Property.{Property};
 ghost use Rattle.ply_head.specs.Heads.{IsSkipped, IsSmall};
-ghost use Rattle.ply_body.specs.declared.fault.Flaw.{Flaw};
-ghost use Rattle.ply_body.specs.Items.{count_of, items_told, item_as, Refuses, Takes};
-ghost use Rattle.ply_body.specs.Bodies.{fan, fan_count, fault_of, is_too_many as has_too_many, row_count as rows_of};
-ghost use Rattle.ply_body.specs.Places.{before, begun, current as properties_before, faces_of, front_of, pass_one, passed, indices_kind, item_fault, front_read, tally, polygon_front, rest_of, Fails, Goes, HasNearCorners, IsBehind, IsCounted, IsEnded, IsPlaced, IsRowLayout, Moves, Walks, WalkEnds, WalkFails, IsNear, IsReach};
+ghost use Rattle.ply_body.specs.Bodies.{fault_of, row_count as rows_of};
+ghost use Rattle.ply_body.specs.Places.{before, begun, current as properties_before, faces_of, item_fault, tally, Fails, Goes, HasNearCorners, IsBehind, IsCounted, IsEnded, IsNear, IsPlaced, IsRowLayout, Moves, Walks, WalkEnds, WalkFails};
 
 use crate::fault::{BodyFault, Flaw};
 use crate::item_reader::{ItemFault, ItemReader};
-use ply_head::{Element, Kind, Property, Role};
+use crate::polygon::{Corners, Polygon, fan_size, is_too_many};
+use crate::face_row::{pass_all, read_front};
+use ply_head::{Element, Property};
 use tpz_io::Source;
-
-// The greatest number of triangles, dropped ones counted.
-const MOST_TRIS: u64 = 2_147_483_648;
-
-/// The corners of a triangle, by the numbers of their vertices.
-#[derive(Clone, Copy)]
-pub struct Corners {
-    pub i: u32,
-    pub j: u32,
-    pub k: u32,
-}
-
-/// A polygon of which some corners were read: how many, the first and the last of them, and how many are left.
-#[derive(Clone, Copy)]
-pub struct Polygon {
-    pub kind: Kind,
-    pub taken: u64,
-    pub first: u32,
-    pub last: u32,
-    pub left: u64,
-}
 
 /// A place in an element: how many rows were begun and how many follow, the polygon of the row at hand, and where the
 /// properties behind it begin, if they weren't read. `formed` triangles come from the rows before. `next` is the number
@@ -49,177 +25,8 @@ pub struct Place {
     pub next: usize,
 }
 
-// What was read of a row up to the count of its list of indices: the kind of these, their count, and where the
-// properties behind the list begin. A row without such a list has no corners and was read whole.
-#[derive(Clone, Copy)]
-struct Front {
-    kind: Kind,
-    count: u64,
-    behind: Option<usize>,
-}
-
-// How many triangles a polygon of so many corners forms.
-fn fan_size(corners: u64) -> u64
-    ensures { result ≡ fan_count corners }
-{
-    corners.saturating_sub(2)
-}
-
-// Whether the corner with this number would form a triangle too many.
-fn is_too_many(formed: u64, taken: u64) -> bool
-    requires formed { formed ≤ 2147483648 }
-    requires taken { taken < 9223372036854775808 }
-    ensures { result ≡ has_too_many formed taken }
-{
-    taken >= 2 && formed + (taken - 1) > MOST_TRIS
-}
-
-// The kind of the count, if it is the list of indices.
-fn kind_of_count(property: &Property) -> Option<Kind>
-    ensures { result ≡ indices_kind property.now }
-{
-    match property.role {
-        Role::Indices => property.count_kind,
-        _ => None,
-    }
-}
-
-// Takes the items of a property that aren't used.
-fn pass<I: Source>(items: &mut ItemReader, src: &mut I, property: &Property) -> Result<(), ItemFault>
-    ensures taken { OnOk result (option_map (pass_one property.now) (items_told items.old (I.left src.old)) ≡ option_map Ok (items_told items.new (I.left src.new))) }
-    ensures refused { (flaw : Flaw) → result ≡ Err (ItemFault.Flaw flaw) → Refuses (pass_one property.now) (items_told items.old (I.left src.old)) flaw }
-    ensures input { IsErrOf result ItemFault.Input → Rose (I.faults src.old) (I.faults src.new) }
-    ensures later { I.faults src.old ≤ I.faults src.new }
-{
-    let count_kind = match property.count_kind {
-        Some(count_kind) => count_kind,
-        None => return items.skip(src, property.kind, 1),
-    };
-    let count = match items.count(src, count_kind) {
-        Ok(count) => count,
-        Err(fault) => return Err(fault),
-    };
-    items.skip(src, property.kind, count)
-}
-
-// Takes the items of properties that aren't used.
-fn pass_all<I: Source>(items: &mut ItemReader, src: &mut I, properties: &[Property]) -> Result<(), ItemFault>
-    ensures taken { OnOk result (option_map (passed properties.now) (items_told items.old (I.left src.old)) ≡ option_map Ok (items_told items.new (I.left src.new))) }
-    ensures refused { (flaw : Flaw) → result ≡ Err (ItemFault.Flaw flaw) → Refuses (passed properties.now) (items_told items.old (I.left src.old)) flaw }
-    ensures input { IsErrOf result ItemFault.Input → Rose (I.faults src.old) (I.faults src.new) }
-    ensures later { I.faults src.old ≤ I.faults src.new }
-{
-    'properties: for property in properties {
-        match pass(items, src, property) {
-            Ok(()) => {}
-            Err(fault) => return Err(fault),
-        }
-    }
-    Ok(())
-}
-
-// Takes what stands in a row up to the count of its list of indices.
-fn read_front<I: Source>(items: &mut ItemReader, src: &mut I, properties: &[Property]) -> Result<Front, ItemFault>
-    requires { IsRowLayout properties.now }
-    ensures taken { IfOk result (λ front. Takes (front_of properties.now) (items_told items.old (I.left src.old)) (front_read front properties.now) (items_told items.new (I.left src.new))) }
-    ensures fits { IfOk result (λ front. (front.count < 9223372036854775808) × IsReach front.behind (length properties.now)) }
-    ensures behind { IfOk result (λ front. All IsSkipped (rest_of front.behind properties.now)) }
-    ensures plain { IfOk result (λ front. All IsSkipped properties.now → front.count ≡ 0) }
-    ensures refused { (flaw : Flaw) → result ≡ Err (ItemFault.Flaw flaw) → Refuses (front_of properties.now) (items_told items.old (I.left src.old)) flaw }
-    ensures input { IsErrOf result ItemFault.Input → Rose (I.faults src.old) (I.faults src.new) }
-    ensures later { I.faults src.old ≤ I.faults src.new }
-{
-    'front: for (at, property) in properties.iter().enumerate() {
-        match kind_of_count(property) {
-            Some(count_kind) => return read_list(items, src, count_kind, property.kind, at + 1),
-            None => match pass(items, src, property) {
-                Ok(()) => {}
-                Err(fault) => return Err(fault),
-            },
-        }
-    }
-    Ok(Front {
-        kind: Kind::U8,
-        count: 0,
-        behind: None,
-    })
-}
-
-// Takes the count of the list of indices, before the properties from a place on.
-fn read_list<I: Source>(items: &mut ItemReader, src: &mut I, count_kind: Kind, kind: Kind, behind: usize) -> Result<Front, ItemFault>
-    ensures taken { IfOk result (λ front. (front.kind ≡ kind) × (front.behind ≡ Some behind) × Takes (item_as count_of count_kind) (items_told items.old (I.left src.old)) front.count (items_told items.new (I.left src.new))) }
-    ensures fits { IfOk result (λ front. front.count < 9223372036854775808) }
-    ensures refused { (flaw : Flaw) → result ≡ Err (ItemFault.Flaw flaw) → Refuses (item_as count_of count_kind) (items_told items.old (I.left src.old)) flaw }
-    ensures input { IsErrOf result ItemFault.Input → Rose (I.faults src.old) (I.faults src.new) }
-    ensures later { I.faults src.old ≤ I.faults src.new }
-{
-    match items.count(src, count_kind) {
-        Ok(count) => Ok(Front {
-            kind,
-            count,
-            behind: Some(behind),
-        }),
-        Err(fault) => Err(fault),
-    }
-}
-
-impl Polygon {
-    /// A polygon without corners.
-    pub fn none() -> Polygon
-        ensures { result ≡ record { kind = Kind.U8; taken = 0; first = 0; last = 0; left = 0 } }
-    {
-        Polygon {
-            kind: Kind::U8,
-            taken: 0,
-            first: 0,
-            last: 0,
-            left: 0,
-        }
-    }
-
-    /// Adds the next corner. From the third on each forms a triangle with the first and the last.
-    fn add(&mut self, corner: u32) -> Option<Corners>
-        requires left { 0 < self.old.left }
-        requires few { self.old.taken + self.old.left < 9223372036854775808 }
-        ensures fan { (more : List ℕ) → fan (polygon_front self.old ++ corner ∷ more) ≡ faces_of result ++ fan (polygon_front self.new ++ more) }
-        ensures kind { self.new.kind ≡ self.old.kind }
-        ensures taken { self.new.taken ≡ self.old.taken + 1 }
-        ensures left { self.old.left ≡ self.new.left + 1 }
-        ensures last { self.new.last ≡ corner }
-        ensures first { (self.new.first ≡ corner) ⊎ ((0 < self.old.taken) × (self.new.first ≡ self.old.first)) }
-        ensures formed { fan_count self.new.taken ≡ fan_count self.old.taken + length (faces_of result) }
-        ensures corners { IfSome result (λ face. (0 < self.old.taken) × (face.i ≡ self.old.first) × (face.j ≡ self.old.last) × (face.k ≡ corner)) }
-    {
-        let taken = self.taken;
-        let first = self.first;
-        let last = self.last;
-        self.taken += 1;
-        self.left -= 1;
-        self.last = corner;
-        if taken == 0 {
-            self.first = corner;
-            return None;
-        }
-        if taken == 1 {
-            return None;
-        }
-        Some(Corners {
-            i: first,
-            j: last,
-            k: corner,
-        })
-    }
-}
-
 impl Place {
-    /// Before the first element.
-    pub fn start() -> Place
-        ensures { result ≡ before 0 }
-    {
-        Place::before(0)
-    }
-
-    /// Before the element with this number, and behind those before it.
+    /// Before the element with this number.
     pub fn before(next: usize) -> Place
         ensures { result ≡ before next }
     {
@@ -247,7 +54,12 @@ impl Place {
     }
 
     // Takes the next corner of the polygon.
-    fn next_corner<I: Source>(&mut self, items: &mut ItemReader, src: &mut I, vertices: u64) -> Result<Option<Corners>, BodyFault>
+    fn next_corner<I: Source>(
+        &mut self,
+        items: &mut ItemReader,
+        src: &mut I,
+        vertices: u64,
+    ) -> Result<Option<Corners>, BodyFault>
         requires left { 0 < self.old.polygon.left }
         requires vertices { vertices ≤ 2147483648 }
         requires counted { IsCounted self.old }
@@ -271,7 +83,12 @@ impl Place {
     }
 
     // Takes what is left of the row behind its polygon.
-    fn end_row<I: Source>(&mut self, items: &mut ItemReader, src: &mut I, properties: &[Property]) -> Result<(), BodyFault>
+    fn end_row<I: Source>(
+        &mut self,
+        items: &mut ItemReader,
+        src: &mut I,
+        properties: &[Property],
+    ) -> Result<(), BodyFault>
         requires polygon { self.old.polygon.left ≡ 0 }
         requires counted { IsCounted self.old }
         requires behind { IsBehind properties.now self.old }
@@ -294,7 +111,12 @@ impl Place {
     }
 
     // Goes to the next row, and takes it up to its polygon.
-    fn begin_row<I: Source>(&mut self, items: &mut ItemReader, src: &mut I, properties: &[Property]) -> Result<(), BodyFault>
+    fn begin_row<I: Source>(
+        &mut self,
+        items: &mut ItemReader,
+        src: &mut I,
+        properties: &[Property],
+    ) -> Result<(), BodyFault>
         requires ended { IsEnded self.old }
         requires left { 0 < self.old.left }
         requires counted { IsCounted self.old }
@@ -326,7 +148,13 @@ impl Place {
     }
 
     // The next triangle of the row at hand. Without one the row is taken to its end.
-    fn face_in_row<I: Source>(&mut self, items: &mut ItemReader, src: &mut I, properties: &[Property], vertices: u64) -> Result<Option<Corners>, BodyFault>
+    fn face_in_row<I: Source>(
+        &mut self,
+        items: &mut ItemReader,
+        src: &mut I,
+        properties: &[Property],
+        vertices: u64,
+    ) -> Result<Option<Corners>, BodyFault>
         requires vertices { vertices ≤ 2147483648 }
         requires counted { IsCounted self.old }
         requires corners { HasNearCorners vertices self.old }
@@ -341,20 +169,22 @@ impl Place {
         ensures later { I.faults src.old ≤ I.faults src.new }
     {
         'corners: while self.polygon.left > 0 {
-            match self.next_corner(items, src, vertices) {
-                Ok(Some(face)) => return Ok(Some(face)),
-                Ok(None) => {}
-                Err(fault) => return Err(fault),
+            if let Some(face) = self.next_corner(items, src, vertices)? {
+                return Ok(Some(face));
             }
         }
-        match self.end_row(items, src, properties) {
-            Ok(()) => Ok(None),
-            Err(fault) => Err(fault),
-        }
+        self.end_row(items, src, properties)?;
+        Ok(None)
     }
 
     // The next triangle of the rows that are left of the element.
-    fn face_in_element<I: Source>(&mut self, items: &mut ItemReader, src: &mut I, properties: &[Property], vertices: u64) -> Result<Option<Corners>, BodyFault>
+    fn face_in_element<I: Source>(
+        &mut self,
+        items: &mut ItemReader,
+        src: &mut I,
+        properties: &[Property],
+        vertices: u64,
+    ) -> Result<Option<Corners>, BodyFault>
         requires vertices { vertices ≤ 2147483648 }
         requires counted { IsCounted self.old }
         requires corners { HasNearCorners vertices self.old }
@@ -370,18 +200,13 @@ impl Place {
         ensures later { I.faults src.old ≤ I.faults src.new }
     {
         'rows: loop {
-            match self.face_in_row(items, src, properties, vertices) {
-                Ok(Some(face)) => return Ok(Some(face)),
-                Ok(None) => {}
-                Err(fault) => return Err(fault),
+            if let Some(face) = self.face_in_row(items, src, properties, vertices)? {
+                return Ok(Some(face));
             }
             if self.left == 0 {
                 return Ok(None);
             }
-            match self.begin_row(items, src, properties) {
-                Ok(()) => {}
-                Err(fault) => return Err(fault),
-            }
+            self.begin_row(items, src, properties)?;
         }
     }
 
@@ -400,7 +225,13 @@ impl Place {
     }
 
     /// The next triangle of the elements that are left.
-    pub fn next_face<I: Source>(&mut self, items: &mut ItemReader, src: &mut I, elements: &[Element], vertices: u64) -> Result<Option<Corners>, BodyFault>
+    pub fn next_face<I: Source>(
+        &mut self,
+        items: &mut ItemReader,
+        src: &mut I,
+        elements: &[Element],
+        vertices: u64,
+    ) -> Result<Option<Corners>, BodyFault>
         requires vertices { vertices ≤ 2147483648 }
         requires small { IsSmall elements.now }
         requires placed { IsPlaced vertices elements.now self.old }
@@ -414,10 +245,8 @@ impl Place {
     {
         'elements: loop {
             let properties = current(elements, self.next);
-            match self.face_in_element(items, src, properties, vertices) {
-                Ok(Some(face)) => return Ok(Some(face)),
-                Ok(None) => {}
-                Err(fault) => return Err(fault),
+            if let Some(face) = self.face_in_element(items, src, properties, vertices)? {
+                return Ok(Some(face));
             }
             if self.next == elements.len() {
                 return Ok(None);

@@ -33,7 +33,12 @@ pub struct Walk {
 
 impl Walk {
     /// The next triangle that is whole. Those before it that aren't are dropped and counted.
-    pub fn next_whole<I: Source, B: Blob>(&mut self, src: &mut I, frame: &Frame, points: &mut B) -> Result<Option<Tri>, BodyFault>
+    pub fn next_whole<I: Source, B: Blob>(
+        &mut self,
+        src: &mut I,
+        frame: &Frame,
+        points: &mut B,
+    ) -> Result<Option<Tri>, BodyFault>
         requires vertices { self.old.vertices ≤ 2147483648 }
         requires elements { IsSmall self.old.elements.items }
         requires placed { IsPlaced self.old.vertices self.old.elements.items self.old.place }
@@ -63,15 +68,17 @@ impl Walk {
         ensures held { B.held points.new ≡ B.held points.old }
     {
         'dropped: loop {
-            let corners = match self.place.next_face(&mut self.items, src, self.elements.as_slice(), self.vertices) {
-                Ok(Some(corners)) => corners,
-                Ok(None) => return Ok(None),
-                Err(fault) => return Err(fault),
+            let found = self.place.next_face(
+                &mut self.items,
+                src,
+                self.elements.as_slice(),
+                self.vertices,
+            )?;
+            let corners = match found {
+                Some(corners) => corners,
+                None => return Ok(None),
             };
-            let tri = match tri_of(&mut self.buffer, points, frame, corners) {
-                Ok(tri) => tri,
-                Err(fault) => return Err(fault),
-            };
+            let tri = tri_of(&mut self.buffer, points, frame, corners)?;
             if whole(&tri) {
                 return Ok(Some(tri));
             }

@@ -33,12 +33,16 @@ returns-in-Ok-Some-clause-tri g c = λ t is.
     let same : c.in-Ok-Some.tri ≡ t = cc in
     let it = e.tri t (ap Ok (c.in-Ok-Some.field-0-is ∙ ap Some same)) in
     let r = c.self.inside in
-    let r' : Inside = record { walk = c.next_whole.new.self; digits = r.digits; frame = r.frame; refusal = r.refusal; given = r.given + 1 } in
-    (it.0, it.1, rw (← c.self.view_is) (record {
-      faces = walked r r' _ _ (it.0 ++ it.1 ∷ []) e.elements e.vertices refl it.2;
-      dropped = it.3;
-      given = refl;
-    }), it.4)
+    let r' : Inside = record { walk = c.next_whole.new.self; digits = r.digits; frame = r.frame; refusal = r.refusal; given = r.given + 1 } in (
+      it.0,
+      it.1,
+      rw (← c.self.view_is) (record {
+        faces = walked r r' _ _ (it.0 ++ it.1 ∷ []) e.elements e.vertices refl it.2;
+        dropped = it.3;
+        given = refl;
+      }),
+      it.4,
+    )
 
 pub returns-in-Err-clause-refused : goal.returns-in-Err-clause-refused
 returns-in-Err-clause-refused g c = λ f is refusal.

@@ -7,7 +7,7 @@ abbrev pub invariant-dropped : goal.invariant-dropped
 invariant-dropped g l = record {
   lost : (lost : List Face)
       × Walks l.initial.self.vertices l.initial.self.elements.items l.initial.self.place l.initial.self.items (g.I.Source.left l.initial.src)
-          l.self.place l.self.items (g.I.Source.left l.src) lost
+      l.self.place l.self.items (g.I.Source.left l.src) lost
       × (l.self.dropped ≡ l.initial.self.dropped + length lost)
       × AreBroken l.frame (g.B.Blob.held l.initial.points) lost;
   elements : l.self.elements ≡ l.initial.self.elements;

@@ -2,7 +2,7 @@ use Rattle.std.proofs.Common.{◌≡◌, ◌≤◌, drop}
 use Rattle.std.specs.Option.{option_map}
 use Rattle.ply_body.specs.Items.{items_told}
 use Rattle.ply_body.specs.Places.{front_of}
-use Rattle.ply_body.proofs.place.read_front.Given as goal
+use Rattle.ply_body.proofs.face_row.read_front.Given as goal
 
 abbrev pub invariant-front : goal.invariant-front
 invariant-front g l = record {
