@@ -1,6 +1,6 @@
 -- The triangles of an input, collected one by one.
-use Rattle.std.proofs.Common.{◌≡◌, ℕ, ◌+◌, Bool, true, false, cond, List, [], ◌∷◌, ◌++◌, length, refl, sym, ◌∙◌, ap, ap₂, arith, append_assoc, Ok, Err, inl, inr}
-use Rattle.std.specs.Prelude.{◌⊎◌, not, map, drop, filter, count_by, All, IsTrue, Result}
+use Rattle.std.proofs.Common.{◌≡◌, ℕ, zero, suc, ◌+◌, ◌≤◌, Bool, true, false, cond, List, [], ◌∷◌, ◌++◌, length, refl, sym, ◌∙◌, ap, ap₂, arith, append_assoc, Ok, Err, inl, inr}
+use Rattle.std.specs.Prelude.{◌⊎◌, not, map, drop, filter, count_by, All, IsTrue, Result, ℤ, pos, unsigned_abs, slice_index_or}
 use Rattle.std.specs.Option.{option_map, ForSome}
 use Rattle.std.specs.declared.option.Option.{Option}
 use Rattle.std.specs.declared.option.Option.TheVariants.{Some, None}
@@ -30,6 +30,7 @@ use Rattle.puzzle_cli.specs.declared.reading.InputMesh.{InputMesh}
 use Rattle.puzzle_cli.specs.declared.status.Status.{Status}
 use Rattle.puzzle_cli.specs.declared.status.Status.TheVariants.{WorkDamage}
 use Rattle.puzzle_cli.specs.Finest.{digits_by, digits_of, IsMeshOf}
+use Rattle.puzzle_cli.specs.Parts.{IsLow}
 use Rattle.puzzle_cli.specs.Statuses.{head_status, body_status, status_of, IsRefused}
 use Rattle.puzzle_cli.specs.Readings.{AreWhole, IsRefusalTold}
 
@@ -281,3 +282,12 @@ refused_by head reading digits told left bytes (Some r) rs status status' read s
           (spots_refused (input_told reading left) (Some r) rs why.0 first (λ x e. sym (some_same e) ∙ why.1)),
       same ∙ why.2,
     )
+
+-- coordinates that are small where they stand, or aren't there
+small_at : (zs : List ℤ) (i : ℕ) → All (λ z. unsigned_abs z ≤ 2147483647) zs → unsigned_abs (slice_index_or zs i (pos 0)) ≤ 2147483647
+small_at [] i all = omega arith
+small_at (z ∷ zs) zero all = All-head (λ z. unsigned_abs z ≤ 2147483647) z zs all
+small_at (z ∷ zs) (suc i) all = small_at zs i (All-tail (λ z. unsigned_abs z ≤ 2147483647) z zs all)
+
+pub low_small : (zs : List ℤ) → All (λ z. unsigned_abs z ≤ 2147483647) zs → IsLow zs
+low_small zs all = record { x = small_at zs 0 all; y = small_at zs 1 all; z = small_at zs 2 all }

@@ -2,7 +2,7 @@ use Rattle.std.proofs.Common.{refl, sym, ◌∙◌, ap, subst, Err}
 use Rattle.ply_body.specs.Inputs.{InHead, InBody}
 use Rattle.puzzle_cli.specs.Statuses.{IsRefused}
 use Rattle.puzzle_cli.specs.Finest.{digits_by}
-use Rattle.puzzle_cli.proofs.ReadLemmas.{head_told, same_status, refusal_of_head, refusal_of_body, damage_of_body, default_by, spots_read, mesh_read, refused_by}
+use Rattle.puzzle_cli.proofs.ReadLemmas.{head_told, same_status, refusal_of_head, refusal_of_body, damage_of_body, default_by, spots_read, mesh_read, refused_by, low_small}
 use Rattle.puzzle_cli.proofs.reading.read_mesh.Goals as goal
 
 pub returns-in-Err-clause-refused : goal.returns-in-Err-clause-refused
@@ -49,6 +49,9 @@ returns-clause-mesh g c = λ bytes told held keeps rows faces means.
     let whole = tris.whole held keeps read.0 read.1 (read.3 held (sym c.read_tris.ensures.held ∙ keeps)) in
     mesh_read _ _ bytes rows faces is means (c.default_digits-digits.ensures ∙ sym (ap digits_by (c.in-Ok.ensures.read.1.heading bytes told)))
     read.1.low whole.0 (c.dropped.ensures ∙ whole.1)
+
+pub returns-clause-low : goal.returns-clause-low
+returns-clause-low g c = low_small c.in-Ok-load_points.frame.low c.in-Ok-load_points.ensures.small.low
 
 pub returns-clause-accepted : goal.returns-clause-accepted
 returns-clause-accepted g c = λ _ bytes told.
