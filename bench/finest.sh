@@ -1,5 +1,6 @@
 #!/bin/sh
-# Times the command `finest` beside a plain program of the same job, over one closed mesh of about a million triangles.
+# Times the command `finest` beside a plain program of the same job, over one closed mesh of about a million triangles: in
+# ASCII, and in both binary formats.
 #
 #     YARDSTICK=/path/to/its/sources bench/finest.sh [SCRATCH]
 #
@@ -7,11 +8,11 @@
 # that program, built. PROVED is the proved program; without it ./tpz builds it where need be. SCRATCH is a folder for
 # the mesh and the parts, about 100 MB; without it a temporary one is made, and removed at the end. SIZE is the number
 # of cells along an edge (288 where it isn't given), so there are 12 SIZE^2 triangles; INPUT is a plain mesh to take in
-# place of that surface; RUNS is how often each program runs (3).
+# place of that surface; RUNS is how often each program runs (3); FORMATS is which of ascii, little and big (all three).
 #
 # Both programs run in turn. Printed are the least wall time, the least processor time (user and system) and the
 # greatest peak of memory of each, the ratios, and whether the two parts are the same byte for byte. The exit status is
-# 0 where they are. It needs awk, cmp, and GNU time at /usr/bin/time.
+# 0 where they are. It needs awk, perl, cmp, and GNU time at /usr/bin/time.
 set -eu
 
 here=$(CDPATH='' cd -- "$(dirname -- "$0")" && pwd)
@@ -48,14 +49,12 @@ if [ -z "$proved" ]; then
 fi
 
 mkdir -p "$scratch/proved" "$scratch/plain"
+mesh=$scratch/mesh.ply
 if [ -n "${INPUT:-}" ]; then
-    cp "$INPUT" "$scratch/proved/input.ply"
+    cp "$INPUT" "$mesh"
 else
-    awk -v n="$size" -f "$here/bumpy_cube.awk" >"$scratch/proved/input.ply"
+    awk -v n="$size" -f "$here/bumpy_cube.awk" >"$mesh"
 fi
-cp "$scratch/proved/input.ply" "$scratch/plain/input.ply"
-: >"$scratch/proved.times"
-: >"$scratch/plain.times"
 
 # One run: its note stays in FOLDER.note, and its wall, user and system seconds and peak in KB are one more line of
 # FOLDER.times.
@@ -64,33 +63,47 @@ measure() {
         stop "$1 didn't end well"
 }
 
-run=0
-while [ "$run" -lt "$runs" ]; do
-    measure "$proved" proved
-    measure "$yardstick" plain
-    run=$((run + 1))
+table() {
+    awk '
+        FILENAME != last { last = FILENAME; side++ }
+        {
+            cpu = $2 + $3
+            if (!(side in wall) || $1 < wall[side]) wall[side] = $1
+            if (!(side in least) || cpu < least[side]) least[side] = cpu
+            if ($4 > peak[side]) peak[side] = $4
+        }
+        function ratio(a, b) { return b > 0 ? sprintf("%.2f", a / b) : "-" }
+        END {
+            print "           wall s  processor s  peak MB"
+            printf "proved    %7.2f %12.2f %8.1f\n", wall[1], least[1], peak[1] / 1000
+            printf "plain     %7.2f %12.2f %8.1f\n", wall[2], least[2], peak[2] / 1000
+            printf "ratio     %7s %12s %8s\n", ratio(wall[1], wall[2]), ratio(least[1], least[2]), ratio(peak[1], peak[2])
+        }
+    ' "$scratch/proved.times" "$scratch/plain.times"
+}
+
+same=0
+for format in ${FORMATS:-ascii little big}; do
+    case $format in
+    ascii) cp "$mesh" "$scratch/proved/input.ply" ;;
+    *) perl "$here/to_binary.pl" "$format" <"$mesh" >"$scratch/proved/input.ply" ;;
+    esac
+    cp "$scratch/proved/input.ply" "$scratch/plain/input.ply"
+    : >"$scratch/proved.times"
+    : >"$scratch/plain.times"
+    run=0
+    while [ "$run" -lt "$runs" ]; do
+        measure "$proved" proved
+        measure "$yardstick" plain
+        run=$((run + 1))
+    done
+    printf '%s: ' "$format"
+    cat "$scratch/proved.note"
+    table
+    if cmp "$scratch/proved/part-1.ply" "$scratch/plain/part-1.ply" && cmp "$scratch/proved.note" "$scratch/plain.note"; then
+        echo "the two parts and notes are the same"
+    else
+        same=1
+    fi
 done
-
-cat "$scratch/proved.note"
-awk '
-    FILENAME != last { last = FILENAME; side++ }
-    {
-        cpu = $2 + $3
-        if (!(side in wall) || $1 < wall[side]) wall[side] = $1
-        if (!(side in least) || cpu < least[side]) least[side] = cpu
-        if ($4 > peak[side]) peak[side] = $4
-    }
-    function ratio(a, b) { return b > 0 ? sprintf("%.2f", a / b) : "-" }
-    END {
-        print "           wall s  processor s  peak MB"
-        printf "proved    %7.2f %12.2f %8.1f\n", wall[1], least[1], peak[1] / 1000
-        printf "plain     %7.2f %12.2f %8.1f\n", wall[2], least[2], peak[2] / 1000
-        printf "ratio     %7s %12s %8s\n", ratio(wall[1], wall[2]), ratio(least[1], least[2]), ratio(peak[1], peak[2])
-    }
-' "$scratch/proved.times" "$scratch/plain.times"
-
-if cmp "$scratch/proved/part-1.ply" "$scratch/plain/part-1.ply" && cmp "$scratch/proved.note" "$scratch/plain.note"; then
-    echo "the two parts and notes are the same"
-else
-    exit 1
-fi
+exit "$same"

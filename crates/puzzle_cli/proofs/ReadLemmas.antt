@@ -124,7 +124,7 @@ broken_one : (ps : List Point) (f : Face) (t : Tri) → t ≡ triangle_at ps f �
 broken_one ps f t is whole = none_counted is_whole (triangle_at ps) f (sym (ap is_whole is) ∙ whole)
 
 pub none_whole : (frame : Frame) (held : Option Bytes) (tris : Mesh) (dropped : ℕ) → tris ≡ [] → dropped ≡ 0 → AreWhole frame held [] tris dropped
-none_whole frame held tris dropped none zero = λ bytes told rows is holds. (none, zero)
+none_whole frame held tris dropped no_tris no_dropped = λ bytes told rows is holds. (no_tris, no_dropped)
 
 -- one triangle more, behind some that aren't whole
 pub one_whole : (frame : Frame) (held : Option Bytes) (faces lost : List Face) (face : Face) (t : Tri) (tris tris' : Mesh) (dropped dropped' : ℕ)
