@@ -22,7 +22,7 @@ invariant_of-self g c =
           let same : c.in-Ok.loaded.frame ≡ frame = cc in
           record {
             frame_small = subst IsSmallFrame same c.in-Ok.ensures.small;
-            placed = rw here (before_placed r.walk.vertices r.walk.elements.items c.in-Ok.loaded.next it.small rest);
+            placed = rw here (before_placed r.walk.elements.items c.in-Ok.loaded.next it.small rest);
             counted = rw (here, new.given, new.dropped) (omega arith);
           };
     }

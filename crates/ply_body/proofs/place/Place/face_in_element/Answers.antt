@@ -1,4 +1,4 @@
-use Rattle.std.proofs.Common.{◌≡◌, ◌∙◌, arith}
+use Rattle.std.proofs.Common.{◌∙◌, arith}
 use Rattle.std.proofs.lemmas.Result.{err_from_is_err_and}
 use Rattle.ply_body.proofs.Binds.{then_moves, then_fails}
 use Rattle.ply_body.proofs.place.Place.face_in_element.Goals as goal
@@ -22,7 +22,6 @@ rows-preserved g c =
     record {
       moves = then_moves (then_moves c.rows.invariant.moves moves) (row.moves c.args.vertices);
       counted = row.counted;
-      near = λ h. absurd (omega (arith, row.taken));
       behind = row.behind;
       left = omega (arith, row.left, c.in_ok-face.ensures.left);
       next = row.next ∙ (goes.next ∙ c.rows.invariant.next);

@@ -1,4 +1,4 @@
-use Rattle.std.proofs.Common.{◌≡◌, ◌∙◌, arith}
+use Rattle.std.proofs.Common.{◌∙◌, arith}
 use Rattle.std.proofs.lemmas.Result.{err_from_is_err_and}
 use Rattle.ply_body.proofs.Binds.{then_moves, then_fails}
 use Rattle.ply_body.proofs.place.Place.face_in_row.Goals as goal
@@ -15,7 +15,6 @@ corners-preserved g c =
     record {
       moves = then_moves c.corners.invariant.moves (moves c.args.properties.now);
       counted = goes.counted;
-      near = goes.corners;
       behind = c.in_ok-face.ensures.behind ∙ c.corners.invariant.behind;
       left = c.in_ok-face.ensures.left ∙ c.corners.invariant.left;
       next = goes.next ∙ c.corners.invariant.next;
