@@ -1,6 +1,6 @@
 -- The least and the greatest coordinates of rows, and the rows less the least.
 use Rattle.std.proofs.Common.{◌≡◌, ℕ, zero, suc, ◌+◌, ◌≤◌, ◌<◌, ◌^◌, List, [], ◌∷◌, ◌++◌, map, length, get_or, refl, sym, ◌∙◌, ap, subst, cond, arith}
-use Rattle.std.specs.Prelude.{IfSome, max, Bool, true, false, ℤ, pos, negsuc, ◌-ℤ◌, ◌≤ℤ◌, fold, All, find, nat_le, nat_lt, unwrap_or}
+use Rattle.std.specs.Prelude.{IfSome, max, Bool, true, false, ℤ, pos, negsuc, unsigned_abs, ◌-ℤ◌, ◌≤ℤ◌, fold, All, find, nat_le, nat_lt, unwrap_or}
 use Rattle.std.specs.Int.{int_min, int_max}
 use Rattle.std.specs.List.{AllByRecursion, range_with_len, slice_index_or}
 use Rattle.std.specs.Option.{option_or}
@@ -9,13 +9,13 @@ use Rattle.std.specs.declared.option.Option.TheVariants.{None, Some}
 use Rattle.std.proofs.lemmas.Int.{ints, clamps}
 use Rattle.std.proofs.lemmas.Bool.{leb-true, le-leb, lt-leb, ltb-false}
 use Rattle.std.proofs.lemmas.List.Sums.{fold-append}
-use Rattle.std.proofs.lemmas.List.Elements.{All-nil, All-from_recursion}
+use Rattle.std.proofs.lemmas.List.Elements.{All-nil, All-head, All-tail, All-from_recursion}
 use Rattle.tpz_base.specs.Points.{point}
 use Rattle.tpz_base.specs.Cubes.{Row, extent, least, less, level_bound, low_of, most, natural_of, widest}
 use Rattle.ply_body.specs.declared.frame.Frame.{Frame}
 use Rattle.ply_body.specs.Inputs.{point_at, points_of}
-use Rattle.ply_body.specs.Spots.{row_of, IsFrameOf, IsNear, IsOver}
-use Rattle.ply_body.specs.Hulls.{level_from, lower, higher, high_of, HasHull, IsExtent}
+use Rattle.ply_body.specs.Spots.{row_of, IsFrameOf, IsNear, IsOver, IsSmallRow}
+use Rattle.ply_body.specs.Hulls.{level_from, lower, higher, high_of, HasHull, IsExtent, IsHullOf}
 use Rattle.ply_body.specs.declared.hull.Hull.{Hull}
 use Rattle.ply_body.specs.declared.fault.BodyFault.{BodyFault}
 use Rattle.ply_body.specs.declared.fault.BodyFault.TheVariants as fault
@@ -98,6 +98,26 @@ all_under : (rows : List Row) → All (λ s. IsOver s (high_of rows)) rows
 all_under [] = All-nil (λ s. IsOver s (high_of []))
 all_under (r ∷ rows) = subst (λ high. All (λ s. IsOver s high) (r ∷ rows)) (high_is r rows)
     (All-from_recursion (λ s. IsOver s (fold higher r rows)) (r ∷ rows) (under_first r rows, under_rest r rows))
+
+-- the least coordinates of rows that are at most the greatest in absolute value are so too
+
+nearer : (y z : ℤ) → unsigned_abs y ≤ 2147483647 → unsigned_abs z ≤ 2147483647 → unsigned_abs (int_min y z) ≤ 2147483647
+nearer y z first second = omega (arith, ints, clamps)
+
+small_fold : (r : Row) (rows : List Row) → IsSmallRow r → All IsSmallRow rows → IsSmallRow (fold lower r rows)
+small_fold r [] small all = small
+small_fold r (s ∷ rows) small all =
+    let next : IsSmallRow s = All-head IsSmallRow s rows all in
+    small_fold (lower r s) rows (record { x = nearer r.x s.x small.x next.x; y = nearer r.y s.y small.y next.y; z = nearer r.z s.z small.z next.z })
+    (All-tail IsSmallRow s rows all)
+
+small_low : (rows : List Row) → All IsSmallRow rows → IsSmallRow (low_of rows)
+small_low [] all = record { x = omega arith; y = omega arith; z = omega arith }
+small_low (r ∷ rows) all = subst IsSmallRow (low_is r rows) (small_fold r rows (All-head IsSmallRow r rows all) (All-tail IsSmallRow r rows all))
+
+pub small_hull : (found : Option Hull) (rows : List Row) → IsHullOf found rows → All IsSmallRow rows → IfSome found (λ h. IsSmallRow (row_of h.low))
+small_hull None rows is all = tt
+small_hull (Some hull) rows is all = subst IsSmallRow is.low (small_low rows all)
 
 natural_grows : (a b : ℤ) → a ≤ℤ b → natural_of a ≤ natural_of b
 natural_grows (pos a) (pos b) below = omega (arith, ints)

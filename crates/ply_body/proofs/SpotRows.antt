@@ -1,6 +1,6 @@
 -- The bytes of rows in a blob, and the row at a place among them.
 use Rattle.std.proofs.Common.{◌≡◌, ℕ, zero, suc, ◌+◌, ◌-◌, ◌*◌, ◌^◌, ◌<◌, ◌≤◌, List, [], ◌∷◌, ◌++◌, length, take, drop, replicate, get_or, refl, sym, ◌∙◌, ap, subst, arith, append_assoc, w32}
-use Rattle.std.specs.Prelude.{false, ℤ, pos, ◌-ℤ◌, FitsSigned, Result, Ok, Err, OnOk, is_err}
+use Rattle.std.specs.Prelude.{false, ℤ, pos, ◌-ℤ◌, unsigned_abs, FitsSigned, Result, Ok, Err, OnOk, is_err}
 use Rattle.std.specs.List.{slice_index_or}
 use Rattle.std.specs.Int.{cast_signed, cast_unsigned}
 use Rattle.std.specs.Option.{ForSome, option_map}
@@ -49,8 +49,9 @@ row_at rows n bytes d below held =
     ∙ block_at rows n d below
 
 -- a coordinate that is read back
-read_back : (z : ℤ) (rest : Bytes) → FitsSigned w32 z → cast_signed w32 (little_number 4 (coordinate_bytes z ++ rest)) ≡ z
-read_back z rest fits =
+read_back : (z : ℤ) (rest : Bytes) → unsigned_abs z ≤ 2147483647 → cast_signed w32 (little_number 4 (coordinate_bytes z ++ rest)) ≡ z
+read_back z rest near =
+    let fits : FitsSigned w32 z = omega (arith, ints) in
     let small : cast_unsigned w32 z < 256 ^ 4 = omega (arith, ints) in
     ap (cast_signed w32) (little_number-reads_back 4 (cast_unsigned w32 z) rest small) ∙ to_z-of_z w32 z fits
 

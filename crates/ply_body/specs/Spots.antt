@@ -1,5 +1,5 @@
 -- The points that a reader keeps in a blob, and the frame that tells of them.
-use Rattle.std.specs.Prelude.{◌≡◌, ℕ, ◌*◌, ◌^◌, ◌≤◌, List, [], ◌∷◌, ◌++◌, length, take, flat_map, All, FitsSigned, ℤ, ◌≤ℤ◌, unsigned_abs, Option}
+use Rattle.std.specs.Prelude.{◌≡◌, ℕ, ◌*◌, ◌^◌, ◌≤◌, List, [], ◌∷◌, ◌++◌, length, take, flat_map, All, ℤ, ◌≤ℤ◌, unsigned_abs, Option}
 use Rattle.std.specs.Option.{ForSome}
 use Rattle.std.specs.Int.{w32, cast_unsigned}
 use Rattle.byteorder.specs.Endian.{little_bytes}
@@ -27,11 +27,11 @@ coordinates r = r.x ∷ r.y ∷ r.z ∷ []
 abbrev pub row_of : Spot → Row
 row_of s = record { x = s.x; y = s.y; z = s.z }
 
--- each coordinate fits 32 bits, in two's complement
+-- each coordinate is at most the greatest that is read, in absolute value
 pub record IsSmallRow (r : Row) : Type 0 where
-  pub x : FitsSigned w32 r.x
-  pub y : FitsSigned w32 r.y
-  pub z : FitsSigned w32 r.z
+  pub x : unsigned_abs r.x ≤ 2147483647
+  pub y : unsigned_abs r.y ≤ 2147483647
+  pub z : unsigned_abs r.z ≤ 2147483647
 
 -- The frame is that of these rows.
 pub record IsFrameOf (frame : Frame) (rows : List Row) : Type 0 where
@@ -84,5 +84,5 @@ pub record IsTriInCube (l : ℕ) (t : Tri) : Type 0 where
 -- the bounds of a frame, whatever was read
 pub record IsSmallFrame (frame : Frame) : Type 0 where
   pub level : (1 ≤ frame.l) × (frame.l ≤ 30)
-  pub low : All (λ z. unsigned_abs z ≤ 2147483648) frame.low
+  pub low : All (λ z. unsigned_abs z ≤ 2147483647) frame.low
   pub end : frame.end ≤ 2 ^ 62

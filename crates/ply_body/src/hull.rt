@@ -112,8 +112,9 @@ fn level_of(width: u32) -> u8
 }
 
 fn coordinates_of(spot: Spot) -> [i64; 3]
+    requires { IsSmallRow (row_of spot) }
     ensures coordinates { result ≡ coordinates (row_of spot) }
-    ensures small { All (λ z. unsigned_abs z ≤ 2147483648) result }
+    ensures small { All (λ z. unsigned_abs z ≤ 2147483647) result }
 {
     [i64::from(spot.x), i64::from(spot.y), i64::from(spot.z)]
 }
@@ -129,7 +130,8 @@ fn width_of(hull: Hull) -> u32
 }
 
 fn frame_of_hull(hull: Hull, vertices: u64) -> Frame
-    requires { vertices ≤ 2147483648 }
+    requires few { vertices ≤ 2147483648 }
+    requires low { IsSmallRow (row_of hull.low) }
     ensures frame { (rows : List Row) → HasHull hull rows → length rows ≡ vertices → too_wide_of rows ≡ None
         → All IsSmallRow rows → IsFrameOf result rows }
     ensures small { IsSmallFrame result }
@@ -144,7 +146,8 @@ fn frame_of_hull(hull: Hull, vertices: u64) -> Frame
 
 /// The frame of rows that aren't too wide.
 pub fn frame_of(hull: Option<Hull>, vertices: u64) -> Frame
-    requires { vertices ≤ 2147483648 }
+    requires few { vertices ≤ 2147483648 }
+    requires low { IfSome hull (λ h. IsSmallRow (row_of h.low)) }
     ensures frame { (rows : List Row) → IsHullOf hull rows → length rows ≡ vertices → too_wide_of rows ≡ None
         → All IsSmallRow rows → IsFrameOf result rows }
     ensures small { IsSmallFrame result }

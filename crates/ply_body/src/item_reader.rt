@@ -1,5 +1,5 @@
 // Items, taken one by one from a source.
-ghost use Rattle.std.specs.Prelude.{◌≡◌, ◌≤◌, ◌<◌, [], Ok, IfOk, OnOk, IsErrOf, Err};
+ghost use Rattle.std.specs.Prelude.{◌≡◌, ◌≤◌, ◌<◌, [], unsigned_abs, Ok, IfOk, OnOk, IsErrOf, Err};
 ghost use Rattle.std.specs.Option.{ForSome, option_map};
 ghost use Rattle.tpz_io.specs.Causes.{Rose};
 ghost use Rattle.tpz_io.specs.Told.{ahead};
@@ -83,6 +83,7 @@ impl ItemReader {
     ) -> Result<i32, ItemFault>
         requires { digits ≤ 9 }
         ensures taken { IfOk result (λ z. Takes (item_as (coordinate_of digits) kind) (items_told self.old (S.left source.old)) z (items_told self.new (S.left source.new))) }
+        ensures fits { IfOk result (λ z. unsigned_abs z ≤ 2147483647) }
         ensures refused { (flaw : Flaw) → result ≡ Err (ItemFault.Flaw flaw) → Refuses (item_as (coordinate_of digits) kind) (items_told self.old (S.left source.old)) flaw }
         ensures input { IsErrOf result ItemFault.Input → Rose (S.faults source.old) (S.faults source.new) }
         ensures later { S.faults source.old ≤ S.faults source.new }

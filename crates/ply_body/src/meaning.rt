@@ -16,7 +16,8 @@ const MOST: u64 = 2_147_483_647;
 /// A coordinate, scaled by so many digits.
 pub fn coordinate_of(item: &Item, digits: u8) -> Result<i32, Flaw>
     requires { digits ≤ 9 }
-    ensures { result ≡ coordinate_of digits item.now }
+    ensures coordinate { result ≡ coordinate_of digits item.now }
+    ensures fits { IfOk result (λ z. unsigned_abs z ≤ 2147483647) }
 {
     match item {
         Item::Token(text) => written(text.as_bytes(), digits),
@@ -62,7 +63,8 @@ fn whole_number_of(item: &Item) -> Result<i64, Flaw>
 // A coordinate that a token writes.
 fn written(text: &[u8], digits: u8) -> Result<i32, Flaw>
     requires { digits ≤ 9 }
-    ensures { result ≡ coordinate_of digits (Token text.now) }
+    ensures coordinate { result ≡ coordinate_of digits (Token text.now) }
+    ensures fits { IfOk result (λ z. unsigned_abs z ≤ 2147483647) }
 {
     match read_number(text, digits) {
         Ok(z) => Ok(z as i32),
@@ -74,7 +76,8 @@ fn written(text: &[u8], digits: u8) -> Result<i32, Flaw>
 // A coordinate that a field holds.
 fn scaled(z: i64, digits: u8) -> Result<i32, Flaw>
     requires { digits ≤ 9 }
-    ensures { result ≡ coordinate_of digits (Field z) }
+    ensures coordinate { result ≡ coordinate_of digits (Field z) }
+    ensures fits { IfOk result (λ z. unsigned_abs z ≤ 2147483647) }
 {
     let power = 10_u64.pow(u32::from(digits)) as i64;
     let Some(scaled) = z.checked_mul(power) else {

@@ -8,7 +8,7 @@ ghost use Rattle.ply_body.specs.declared.fault.BodyFault.{BodyFault};
 ghost use Rattle.ply_body.specs.Items.{items_told};
 ghost use Rattle.ply_body.specs.Bodies.{elements as input_from, no_input, row_count as row_count_of, too_wide as too_wide_of};
 ghost use Rattle.ply_body.specs.Inputs.{setting_of};
-ghost use Rattle.ply_body.specs.Spots.{row_of, HoldsRows, IsFrameOf, IsSmallFrame};
+ghost use Rattle.ply_body.specs.Spots.{row_of, HoldsRows, IsFrameOf, IsSmallFrame, IsSmallRow};
 ghost use Rattle.ply_body.specs.VertexRows.{row_fault, AreRead, IsOfInput, IsVertexAt, PassesElements, RefusesElements, RefusesRowAt, RefusesRows, RefusesVertex, TakesRow, TakesRows};
 ghost use Rattle.ply_body.specs.Readings.{faces_from, with_spots, IsRefusal, IsRest};
 
@@ -69,6 +69,7 @@ fn take_row<I: Source>(
     requires properties { All IsOfVertex element.now.properties }
     ensures taken { IfOk result (λ spot. TakesRow digits element.now.properties
         (items_told items.old (I.left src.old)) (row_of spot) (items_told items.new (I.left src.new))) }
+    ensures small { IfOk result (λ spot. IsSmallRow (row_of spot)) }
     ensures refused { (f : BodyFault) → result ≡ Err f → IsRefusal f
         → RefusesRowAt digits element.now.properties number row (items_told items.old (I.left src.old)) f }
     ensures input { IsErrOf result BodyFault.InputFault → Rose (I.faults src.old) (I.faults src.new) }

@@ -1,11 +1,11 @@
 // The items of a row that has no corners, taken one by one.
-ghost use Rattle.std.specs.Prelude.{◌≡◌, ◌≢◌, ◌≤◌, ℕ, All, Err, None, Some, IfOk, IsErrOf};
+ghost use Rattle.std.specs.Prelude.{◌≡◌, ◌≢◌, ◌≤◌, ℕ, unsigned_abs, All, Err, None, Some, IfOk, IsErrOf};
 ghost use Rattle.tpz_io.specs.Causes.{Rose};
 ghost use Rattle.ply_head.specs.Heads.{IsOfVertex, IsSkipped};
 ghost use Rattle.ply_body.specs.declared.fault.Flaw.{Flaw};
 ghost use Rattle.ply_body.specs.Bodies.{with_coordinate as with_coordinate_of};
 ghost use Rattle.ply_body.specs.Items.{items_told};
-ghost use Rattle.ply_body.specs.Spots.{row_of};
+ghost use Rattle.ply_body.specs.Spots.{row_of, IsSmallRow};
 ghost use Rattle.ply_body.specs.VertexRows.{TakesProperty, RefusesProperty, TakesRow, RefusesRow};
 
 use crate::item_reader::{ItemFault, ItemReader};
@@ -14,7 +14,10 @@ use ply_head::{Kind, Property, Role};
 use tpz_io::Source;
 
 fn with_coordinate(spot: Spot, role: Role, value: i32) -> Spot
-    ensures { row_of result ≡ with_coordinate_of role value (row_of spot) }
+    requires spot { IsSmallRow (row_of spot) }
+    requires value { unsigned_abs value ≤ 2147483647 }
+    ensures row { row_of result ≡ with_coordinate_of role value (row_of spot) }
+    ensures small { IsSmallRow (row_of result) }
 {
     match role {
         Role::X => Spot { x: value, ..spot },
@@ -32,10 +35,12 @@ fn skip_list<I: Source>(
     spot: Spot,
     src: &mut I,
 ) -> Result<Spot, ItemFault>
+    requires spot { IsSmallRow (row_of spot) }
     requires list { property.count_kind ≡ Some count_kind }
     requires role { property.role ≡ Role.Skip }
     ensures taken { IfOk result (λ after. (digits : ℕ) → TakesProperty digits property (row_of spot)
         (items_told items.old (I.left src.old)) (row_of after) (items_told items.new (I.left src.new))) }
+    ensures small { IfOk result (λ after. IsSmallRow (row_of after)) }
     ensures refused { (flaw : Flaw) → result ≡ Err (ItemFault.Flaw flaw)
         → (digits : ℕ) → RefusesProperty digits property (row_of spot) (items_told items.old (I.left src.old)) flaw }
     ensures input { IsErrOf result ItemFault.Input → Rose (I.faults src.old) (I.faults src.new) }
@@ -55,10 +60,12 @@ fn read_scalar<I: Source>(
     src: &mut I,
 ) -> Result<Spot, ItemFault>
     requires digits { digits ≤ 9 }
+    requires spot { IsSmallRow (row_of spot) }
     requires scalar { property.count_kind ≡ None }
     requires role { property.role ≢ Role.Indices }
     ensures taken { IfOk result (λ after. TakesProperty digits property (row_of spot)
         (items_told items.old (I.left src.old)) (row_of after) (items_told items.new (I.left src.new))) }
+    ensures small { IfOk result (λ after. IsSmallRow (row_of after)) }
     ensures refused { (flaw : Flaw) → result ≡ Err (ItemFault.Flaw flaw)
         → RefusesProperty digits property (row_of spot) (items_told items.old (I.left src.old)) flaw }
     ensures input { IsErrOf result ItemFault.Input → Rose (I.faults src.old) (I.faults src.new) }
@@ -80,9 +87,11 @@ fn read_property<I: Source>(
     src: &mut I,
 ) -> Result<Spot, ItemFault>
     requires digits { digits ≤ 9 }
+    requires spot { IsSmallRow (row_of spot) }
     requires property { IsOfVertex property }
     ensures taken { IfOk result (λ after. TakesProperty digits property (row_of spot)
         (items_told items.old (I.left src.old)) (row_of after) (items_told items.new (I.left src.new))) }
+    ensures small { IfOk result (λ after. IsSmallRow (row_of after)) }
     ensures refused { (flaw : Flaw) → result ≡ Err (ItemFault.Flaw flaw)
         → RefusesProperty digits property (row_of spot) (items_told items.old (I.left src.old)) flaw }
     ensures input { IsErrOf result ItemFault.Input → Rose (I.faults src.old) (I.faults src.new) }
@@ -105,6 +114,7 @@ pub fn read_row<I: Source>(
     requires properties { All IsOfVertex properties.now }
     ensures taken { IfOk result (λ spot. TakesRow digits properties.now
         (items_told items.old (I.left src.old)) (row_of spot) (items_told items.new (I.left src.new))) }
+    ensures small { IfOk result (λ spot. IsSmallRow (row_of spot)) }
     ensures refused { (flaw : Flaw) → result ≡ Err (ItemFault.Flaw flaw)
         → RefusesRow digits properties.now (items_told items.old (I.left src.old)) flaw }
     ensures input { IsErrOf result ItemFault.Input → Rose (I.faults src.old) (I.faults src.new) }

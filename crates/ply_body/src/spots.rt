@@ -56,7 +56,7 @@ fn spot_from(bytes: &[u8; ROW]) -> Spot
 
 // How far a coordinate is above the least one, at most so far.
 fn above(value: i32, low: i64, side: u32) -> Option<u32>
-    requires { unsigned_abs low ≤ 2147483648 }
+    requires { unsigned_abs low ≤ 2147483647 }
     ensures distance { IfSome result (λ d. d ≡ natural_of (value -ℤ low)) }
     ensures within { IfSome result (λ d. d ≤ side) }
     ensures none { result ≡ None → low ≤ℤ value → side < natural_of (value -ℤ low) }

@@ -1,5 +1,6 @@
 use Rattle.std.proofs.Common.{◌≡◌, ◌∙◌, sym, ap, inl, Err}
 use Rattle.std.proofs.lemmas.Result.{err_from_is_err_and}
+use Rattle.ply_body.proofs.CubeRows.{small_hull}
 use Rattle.ply_body.proofs.SpotRows.{where_ok}
 use Rattle.ply_body.proofs.points.load_vertex.Goals as goal
 
@@ -8,6 +9,11 @@ returns-in_err-hull-clause-refused g c = λ f is refusal.
     let p = err_from_is_err_and c.from_residual.result c.from_residual.ensures.1 in
     let fault : c.in_err-hull.field-0.0 ≡ f = cc in
     inl (c.in_err-hull.ensures.refused f (ap Err fault) refusal)
+
+pub frame_of-requires-clause-low : goal.frame_of-requires-clause-low
+frame_of-requires-clause-low g c =
+    let (rows, count, are, taken) = c.in_ok-hull.ensures.rows in
+    small_hull c.in_ok-hull.hull rows are.hull are.small
 
 pub returns-in-None-clause-rows : goal.returns-in-None-clause-rows
 returns-in-None-clause-rows g c =

@@ -1,5 +1,4 @@
-use Rattle.std.proofs.Common.{rules, ◌≡◌, ◌+◌, ◌++◌, ◌∷◌, ◌∙◌, ℕ, [], length, refl, sym, ap, arith, Err, w32}
-use Rattle.std.specs.Prelude.{FitsSigned}
+use Rattle.std.proofs.Common.{◌≡◌, ◌+◌, ◌++◌, ◌∷◌, ◌∙◌, ℕ, [], length, refl, sym, ap, arith, Err}
 use Rattle.std.proofs.lemmas.List.{length_push}
 use Rattle.std.proofs.lemmas.List.Elements.{All-nil, All-push}
 use Rattle.std.proofs.lemmas.Result.{err_from_is_err_and}
@@ -23,9 +22,6 @@ pub rows-preserved : goal.rows-preserved
 rows-preserved g c =
     let (rs, count, are, so_far) = c.rows.invariant.taken in
     let r = row_of c.in_ok-spot.spot in
-    let x : FitsSigned w32 c.in_ok-spot.spot.x = search rules in
-    let y : FitsSigned w32 c.in_ok-spot.spot.y = search rules in
-    let z : FitsSigned w32 c.in_ok-spot.spot.z = search rules in
     let answered = sym c.if-is_err.ensures.value in
     let way = where_ok _ c.add.result answered c.add.ensures.way in
     record {
@@ -34,7 +30,7 @@ rows-preserved g c =
         length_push rs r ∙ ap (λ (n : ℕ). n + 1) count,
         record {
           hull = c.widened.ensures rs are.hull;
-          small = All-push IsSmallRow rs r are.small (record { x = x; y = y; z = z });
+          small = All-push IsSmallRow rs r are.small c.in_ok-spot.ensures.small;
           kept = where_ok _ c.add.result answered c.add.ensures.kept rs count are.kept;
         },
         more_read _ _ _ _ _ _ _ rs r so_far c.in_ok-spot.ensures.taken,

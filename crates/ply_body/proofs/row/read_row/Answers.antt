@@ -19,6 +19,7 @@ row-preserved g c = record {
       let below : c.row.property-index < length c.args.properties.now = omega arith in
       c.row.invariant.taken vertices
       ∙ row_step (setting c.args.digits vertices) c.args.properties.now c.row.property-index _ _ _ _ _ below (c.in_ok-spot.ensures.taken vertices);
+  small = c.in_ok-spot.ensures.small;
   later = omega (arith, c.row.invariant.later, c.in_ok-spot.ensures.later);
 }
 

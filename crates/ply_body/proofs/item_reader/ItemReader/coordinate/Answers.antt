@@ -15,4 +15,4 @@ pub returns-in_err-coordinate_of-clause-refused : goal.returns-in_err-coordinate
 returns-in_err-coordinate_of-clause-refused g c flaw is =
     let p = err_from_is_err_and c.from_residual-in_err-coordinate_of.result c.from_residual-in_err-coordinate_of.ensures.1 in
     let same : c.coordinate_of.result ≡ Err flaw = cc in
-    meaningless (coordinate_of c.args.digits) c.args.kind _ _ _ flaw c.in_ok-item.ensures.taken (sym c.coordinate_of.ensures ∙ same)
+    meaningless (coordinate_of c.args.digits) c.args.kind _ _ _ flaw c.in_ok-item.ensures.taken (sym c.coordinate_of.ensures.coordinate ∙ same)
