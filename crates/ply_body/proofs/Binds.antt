@@ -18,7 +18,8 @@ use Rattle.ply_body.specs.declared.place.Place.{Place}
 use Rattle.ply_body.specs.Items.{◌>>=◌, Items, ItemPlace}
 use Rattle.ply_body.specs.Bodies.{placed, fault_of}
 use Rattle.ply_body.specs.Readings.{with_faces}
-use Rattle.ply_body.specs.Places.{item_fault, told_at, IsReason, Moves, Fails}
+use Rattle.ply_body.specs.Faults.{row_fault}
+use Rattle.ply_body.specs.Places.{told_at, IsReason, Moves, Fails}
 
 pub bind_ok : {A B E : Type 0} (r : Result A E) (f : A → Result B E) (x : A) → r ≡ Ok x → (r >>= f) ≡ f x
 bind_ok r f x e = rw e refl
@@ -139,7 +140,7 @@ flaw_reason e r coming before now TooLong h = h
 
 pub item_reason : (e r : ℕ) (coming : Option (Result (List Face) BodyFault)) (before now : ℕ) (fault : ItemFault)
     → ((flaw : Flaw) → fault ≡ item_faults.Flaw flaw → ForSome coming (λ x. x ≡ Err (fault_of e r flaw))) → (fault ≡ item_faults.Input → Rose before now)
-    → IsReason coming before now (item_fault e r fault)
+    → IsReason coming before now (row_fault e r fault)
 item_reason e r coming before now (item_faults.Flaw flaw) refused input = flaw_reason e r coming before now flaw (refused flaw refl)
 item_reason e r coming before now item_faults.Input refused input = input refl
 

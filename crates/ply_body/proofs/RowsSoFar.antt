@@ -15,7 +15,8 @@ use Rattle.ply_body.specs.declared.item_reader.ItemFault.TheVariants as item_fau
 use Rattle.ply_body.specs.declared.fault.BodyFault.{BodyFault}
 use Rattle.ply_body.specs.Items.{◌>>=◌, Items}
 use Rattle.ply_body.specs.Bodies.{Setting, RowItems, nothing_used, with_properties, fan_count, placed, rows, row_count}
-use Rattle.ply_body.specs.VertexRows.{setting, used_row, with_front, row_fault, IsOfInput, TakesRow, RefusesRow, RefusesRowAt, RefusesRows, TakesRows, TakesSoFar}
+use Rattle.ply_body.specs.Faults.{row_fault}
+use Rattle.ply_body.specs.VertexRows.{setting, used_row, with_front, IsOfInput, TakesRow, RefusesRow, RefusesRowAt, RefusesRows, TakesRows, TakesSoFar}
 use Rattle.ply_body.specs.Readings.{IsRefusal}
 use Rattle.ply_body.proofs.Taking.{refused_behind}
 

@@ -1,5 +1,6 @@
 pub mod Items
 pub mod Bodies
+pub mod Faults
 pub mod Inputs
 pub mod Spots
 pub mod Readings

@@ -16,8 +16,6 @@ use Rattle.ply_head.specs.Heads.{IsSkipped, IsOther}
 use Rattle.ply_body.specs.declared.fault.Flaw.{Flaw}
 use Rattle.ply_body.specs.declared.fault.BodyFault.{BodyFault}
 use Rattle.ply_body.specs.declared.fault.BodyFault.TheVariants.{InputFault, WorkFault, WorkDamage}
-use Rattle.ply_body.specs.declared.item_reader.ItemFault.{ItemFault}
-use Rattle.ply_body.specs.declared.item_reader.ItemFault.TheVariants as item_faults
 use Rattle.ply_body.specs.declared.polygon.Corners.{Corners}
 use Rattle.ply_body.specs.declared.polygon.Polygon.{Polygon as CodePolygon}
 use Rattle.ply_body.specs.declared.place.Place.{Place}
@@ -74,11 +72,6 @@ rest_of (Some k) ps = drop k ps
 
 abbrev pub front_read : Front → List Property → RowList
 front_read f ps = row_list f.kind f.count (rest_of f.behind ps)
-
--- a fault of an item, in the row number r of the element number e
-abbrev pub item_fault : ℕ → ℕ → ItemFault → BodyFault
-item_fault e r (item_faults.Flaw flaw) = fault_of e r flaw
-item_fault e r item_faults.Input = InputFault
 
 abbrev pub face_of : Corners → Face
 face_of c = record { i = c.i; j = c.j; k = c.k }

@@ -9,8 +9,6 @@ use Rattle.ply_head.specs.Heads.{IsOther, IsVertexElement}
 use Rattle.ply_body.specs.declared.fault.Flaw.{Flaw}
 use Rattle.ply_body.specs.declared.fault.BodyFault.{BodyFault}
 use Rattle.ply_body.specs.declared.fault.BodyFault.TheVariants.{InputFault, WorkFault, WorkDamage}
-use Rattle.ply_body.specs.declared.item_reader.ItemFault.{ItemFault}
-use Rattle.ply_body.specs.declared.item_reader.ItemFault.TheVariants as item_fault
 use Rattle.ply_body.specs.declared.hull.Hull.{Hull}
 use Rattle.ply_body.specs.Items.{Items, Takes, Refuses}
 use Rattle.ply_body.specs.Bodies.{Setting, RowItems, nothing_used, with_property, with_properties, fault_of, rows, row_count, too_wide, elements, no_input}
@@ -57,11 +55,6 @@ TakesRows digits e el old rs new = (vertices : ℕ)
 
 abbrev pub RefusesRows : ℕ → ℕ → Element → Option Items → BodyFault → Type 0
 RefusesRows digits e el old f = (vertices : ℕ) → ForSome old (λ items. rows (setting digits vertices) e el.properties 0 0 (row_count el) items ≡ Err f)
-
--- the fault of a row that isn't read
-abbrev pub row_fault : ℕ → ℕ → ItemFault → BodyFault
-row_fault e r (item_fault.Flaw flaw) = fault_of e r flaw
-row_fault e r item_fault.Input = InputFault
 
 -- it isn't the fault of a blob
 abbrev pub IsOfInput : BodyFault → Type 0

@@ -5,10 +5,11 @@ ghost use Rattle.tpz_io.specs.Causes.{Rose};
 ghost use Rattle.tpz_io.specs.Told.{ahead};
 ghost use Rattle.ply_body.specs.declared.fault.Flaw.{Flaw};
 ghost use Rattle.ply_body.specs.declared.item_reader.ItemFault.TheVariants as item_fault;
+ghost use Rattle.ply_body.specs.Faults.{row_fault};
 ghost use Rattle.ply_body.specs.Items.{MOST_BYTES, coordinate_of, count_of, index_of, item, item_as, items_told, skipped, Refuses, Takes};
 ghost use Rattle.ply_body.specs.Tokens.{items_ahead};
 
-use crate::fault::Flaw;
+use crate::fault::{BodyFault, Flaw};
 use crate::field::next_field;
 use crate::item::Item;
 use crate::meaning::{coordinate_of, count_of, index_of};
@@ -42,6 +43,25 @@ impl From<Flaw> for ItemFault {
 
     fn from(flaw: Flaw) -> Self {
         ItemFault::Flaw(flaw)
+    }
+}
+
+/// The fault of an item in a row of this number.
+pub fn fault_at(fault: ItemFault, element: u32, row: u64) -> BodyFault
+    ensures { result ≡ row_fault element row fault }
+{
+    match fault {
+        ItemFault::Flaw(Flaw::Short) => BodyFault::Short { element, row },
+        ItemFault::Flaw(Flaw::Number) => BodyFault::Number { element, row },
+        ItemFault::Flaw(Flaw::Range) => BodyFault::Range { element, row },
+        ItemFault::Flaw(Flaw::BadIndex { index }) => BodyFault::BadIndex {
+            element,
+            row,
+            index,
+        },
+        ItemFault::Flaw(Flaw::TooManyTris) => BodyFault::TooManyTris { element, row },
+        ItemFault::Flaw(Flaw::TooLong) => BodyFault::TooLong { element, row },
+        ItemFault::Input => BodyFault::InputFault,
     }
 }
 

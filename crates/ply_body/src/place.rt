@@ -2,13 +2,14 @@
 ghost use Rattle.std.specs.Prelude.{All, ◌≡◌, ◌≤◌, ◌<◌, ◌+◌, ◌-◌, [], ℕ, List, length, Ok, None, IfOk, IfErr, OnOk};
 ghost use Rattle.ply_head.specs.declared.element.Property.{Property};
 ghost use Rattle.ply_head.specs.Heads.{IsSkipped, IsSmall};
-ghost use Rattle.ply_body.specs.Bodies.{fault_of, row_count as rows_of};
-ghost use Rattle.ply_body.specs.Places.{before, begun, current as properties_before, faces_of, item_fault, tally, Fails, Goes, IsBehind, IsCounted, IsEnded, IsPlaced, IsRowLayout, Moves, Walks, WalkEnds, WalkFails};
+ghost use Rattle.ply_body.specs.Faults.{row_fault};
+ghost use Rattle.ply_body.specs.Places.{before, begun, current as properties_before, faces_of, tally, Fails, Goes, IsBehind, IsCounted, IsEnded, IsPlaced, IsRowLayout, Moves, Walks, WalkEnds, WalkFails};
 
 use crate::fault::{BodyFault, Flaw};
-use crate::item_reader::{ItemFault, ItemReader};
+use crate::item_reader::{ItemFault, ItemReader, fault_at};
 use crate::polygon::{Corners, Polygon, fan_size, is_too_many};
 use crate::face_row::{pass_all, read_front};
+use crate::row::row_count;
 use ply_head::{Element, Property};
 use tpz_io::Source;
 
@@ -43,14 +44,11 @@ impl Place {
     // The place of a fault in the row at hand.
     fn fault(&self, fault: ItemFault) -> BodyFault
         requires { self.now.next ≤ 64 }
-        ensures { result ≡ item_fault (self.now.next - 1) (self.now.row - 1) fault }
+        ensures { result ≡ row_fault (self.now.next - 1) (self.now.row - 1) fault }
     {
         let element = self.next.saturating_sub(1) as u32;
         let row = self.row.saturating_sub(1);
-        match fault {
-            ItemFault::Input => BodyFault::InputFault,
-            ItemFault::Flaw(flaw) => placed(element, row, flaw),
-        }
+        fault_at(fault, element, row)
     }
 
     // Takes the next corner of the polygon.
@@ -252,16 +250,6 @@ impl Place {
     }
 }
 
-// How many rows of an element have items.
-fn row_count(element: &Element) -> u64
-    ensures { result ≡ rows_of element.now }
-{
-    if element.properties().len() == 0 {
-        return 0;
-    }
-    element.count()
-}
-
 // The properties of the element before the one with this number.
 fn current(elements: &[Element], next: usize) -> &[Property]
     requires { next ≤ length elements.now }
@@ -271,22 +259,4 @@ fn current(elements: &[Element], next: usize) -> &[Property]
         return &[];
     }
     elements[next - 1].properties()
-}
-
-// A refusal with its place.
-fn placed(element: u32, row: u64, flaw: Flaw) -> BodyFault
-    ensures { result ≡ fault_of element row flaw }
-{
-    match flaw {
-        Flaw::Short => BodyFault::Short { element, row },
-        Flaw::Number => BodyFault::Number { element, row },
-        Flaw::Range => BodyFault::Range { element, row },
-        Flaw::BadIndex { index } => BodyFault::BadIndex {
-            element,
-            row,
-            index,
-        },
-        Flaw::TooManyTris => BodyFault::TooManyTris { element, row },
-        Flaw::TooLong => BodyFault::TooLong { element, row },
-    }
 }

@@ -9,14 +9,14 @@ ghost use Rattle.ply_body.specs.Items.{items_told};
 ghost use Rattle.ply_body.specs.Bodies.{elements as input_from, no_input, row_count as row_count_of, too_wide as too_wide_of};
 ghost use Rattle.ply_body.specs.Inputs.{setting_of};
 ghost use Rattle.ply_body.specs.Spots.{row_of, HoldsRows, IsFrameOf, IsSmallFrame, IsSmallRow};
-ghost use Rattle.ply_body.specs.VertexRows.{row_fault, AreRead, IsOfInput, IsVertexAt, PassesElements, RefusesElements, RefusesRowAt, RefusesRows, RefusesVertex, TakesRow, TakesRows};
+ghost use Rattle.ply_body.specs.VertexRows.{AreRead, IsOfInput, IsVertexAt, PassesElements, RefusesElements, RefusesRowAt, RefusesRows, RefusesVertex, TakesRow, TakesRows};
 ghost use Rattle.ply_body.specs.Readings.{faces_from, with_spots, IsRefusal, IsRest};
 
-use crate::fault::{BodyFault, Flaw};
+use crate::fault::BodyFault;
 use crate::frame::Frame;
 use crate::hull::{Hull, frame_of, too_wide, widened};
-use crate::item_reader::{ItemFault, ItemReader};
-use crate::row::read_row;
+use crate::item_reader::{ItemReader, fault_at};
+use crate::row::{read_row, row_count};
 use crate::spots::{PointBuffer, Spot};
 use ply_head::{Element, Used};
 use tpz_io::{Blob, Source};
@@ -26,34 +26,6 @@ use tpz_io::{Blob, Source};
 pub struct Loaded {
     pub frame: Frame,
     pub next: usize,
-}
-
-fn fault_at(fault: ItemFault, element: u32, row: u64) -> BodyFault
-    ensures { result ≡ row_fault element row fault }
-{
-    match fault {
-        ItemFault::Flaw(Flaw::Short) => BodyFault::Short { element, row },
-        ItemFault::Flaw(Flaw::Number) => BodyFault::Number { element, row },
-        ItemFault::Flaw(Flaw::Range) => BodyFault::Range { element, row },
-        ItemFault::Flaw(Flaw::BadIndex { index }) => BodyFault::BadIndex {
-            element,
-            row,
-            index,
-        },
-        ItemFault::Flaw(Flaw::TooManyTris) => BodyFault::TooManyTris { element, row },
-        ItemFault::Flaw(Flaw::TooLong) => BodyFault::TooLong { element, row },
-        ItemFault::Input => BodyFault::InputFault,
-    }
-}
-
-// How many rows are read. An element without properties has no items.
-fn row_count(element: &Element) -> u64
-    ensures { result ≡ row_count_of element.now }
-{
-    if element.properties().is_empty() {
-        return 0;
-    }
-    element.count()
 }
 
 // Takes the items of a row of this number, and says where it is refused.

@@ -3,14 +3,14 @@ ghost use Rattle.std.specs.Prelude.{◌≡◌, ◌≢◌, ◌≤◌, ℕ, unsign
 ghost use Rattle.tpz_io.specs.Causes.{Rose};
 ghost use Rattle.ply_head.specs.Heads.{IsOfVertex, IsSkipped};
 ghost use Rattle.ply_body.specs.declared.fault.Flaw.{Flaw};
-ghost use Rattle.ply_body.specs.Bodies.{with_coordinate as with_coordinate_of};
+ghost use Rattle.ply_body.specs.Bodies.{row_count as rows_of, with_coordinate as with_coordinate_of};
 ghost use Rattle.ply_body.specs.Items.{items_told};
 ghost use Rattle.ply_body.specs.Spots.{row_of, IsSmallRow};
 ghost use Rattle.ply_body.specs.VertexRows.{TakesProperty, RefusesProperty, TakesRow, RefusesRow};
 
 use crate::item_reader::{ItemFault, ItemReader};
 use crate::spots::Spot;
-use ply_head::{Kind, Property, Role};
+use ply_head::{Element, Kind, Property, Role};
 use tpz_io::Source;
 
 fn with_coordinate(spot: Spot, role: Role, value: i32) -> Spot
@@ -125,4 +125,14 @@ pub fn read_row<I: Source>(
         spot = read_property(items, *property, digits, spot, src)?;
     }
     Ok(spot)
+}
+
+/// How many rows are read. An element without properties has no items.
+pub fn row_count(element: &Element) -> u64
+    ensures { result ≡ rows_of element.now }
+{
+    if element.properties().is_empty() {
+        return 0;
+    }
+    element.count()
 }
