@@ -5,10 +5,10 @@ ghost use Rattle.ply_head.specs.Heads.{IsSkipped, IsSmall};
 ghost use Rattle.ply_body.specs.Bodies.{fault_of, row_count as rows_of};
 ghost use Rattle.ply_body.specs.Places.{before, begun, current as properties_before, faces_of, item_fault, tally, Fails, Goes, HasNearCorners, IsBehind, IsCounted, IsEnded, IsNear, IsPlaced, IsRowLayout, Moves, Walks, WalkEnds, WalkFails};
 
+use crate::face_row::{pass_all, read_front};
 use crate::fault::{BodyFault, Flaw};
 use crate::item_reader::{ItemFault, ItemReader};
 use crate::polygon::{Corners, Polygon, fan_size, is_too_many};
-use crate::face_row::{pass_all, read_front};
 use ply_head::{Element, Property};
 use tpz_io::Source;
 

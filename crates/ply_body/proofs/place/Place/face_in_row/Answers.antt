@@ -1,4 +1,4 @@
-use Rattle.std.proofs.Common.{◌≡◌, ◌∙◌, arith}
+use Rattle.std.proofs.Common.{◌∙◌, arith}
 use Rattle.std.proofs.lemmas.Result.{err_from_is_err_and}
 use Rattle.ply_body.proofs.Binds.{then_moves, then_fails}
 use Rattle.ply_body.proofs.place.Place.face_in_row.Goals as goal
