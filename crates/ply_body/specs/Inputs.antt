@@ -1,5 +1,5 @@
 -- What an input means: its rows and triangles, or its first refusal.
-use Rattle.std.specs.Prelude.{ℕ, Bool, true, false, not, List, [], ◌∷◌, map, drop, filter, count_by, find, Result, Ok, Err}
+use Rattle.std.specs.Prelude.{ℕ, Bool, true, false, not, List, map, drop, filter, count_by, find, Result, Ok, Err}
 use Rattle.std.specs.Option.{option_map_or}
 use Rattle.std.specs.List.{slice_index_or}
 use Rattle.tpz_base.specs.declared.shape.Point.{Point}

@@ -1,5 +1,5 @@
 -- Where a reader of the elements is, and what is still to come from there.
-use Rattle.std.specs.Prelude.{◌≡◌, ◌≢◌, ℕ, ◌+◌, ◌-◌, suc, min, List, [], ◌∷◌, ◌++◌, length, take, All, Option, Some, None, Result, Ok, Err}
+use Rattle.std.specs.Prelude.{◌≡◌, ℕ, ◌+◌, ◌-◌, min, List, [], ◌∷◌, ◌++◌, length, take, All, Option, None, Result, Ok, Err}
 use Rattle.std.specs.Option.{option_map, ForSome}
 use Rattle.tpz_base.specs.Cubes.{Row}
 use Rattle.tpz_base.specs.Texts.{Bytes, Face}
@@ -12,7 +12,7 @@ use Rattle.ply_body.specs.declared.fault.BodyFault.{BodyFault}
 use Rattle.ply_body.specs.declared.fault.BodyFault.TheVariants.{InputFault, WorkFault, WorkDamage}
 use Rattle.ply_body.specs.declared.frame.Frame.{Frame}
 use Rattle.ply_body.specs.Items.{◌>>=◌, MOST_BYTES, Items, ItemPlace, items_told}
-use Rattle.ply_body.specs.Bodies.{Setting, RowItems, nothing_used, corners, with_properties, placed, fan_count, rows, elements, fan, fans, Input, no_input}
+use Rattle.ply_body.specs.Bodies.{Setting, nothing_used, corners, with_properties, placed, fan_count, rows, elements, fan, fans, Input, no_input}
 use Rattle.ply_body.specs.Inputs.{setting_of}
 
 -- A polygon of which some corners were read: how many, the first and the last of them, and how many are left.

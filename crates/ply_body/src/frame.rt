@@ -5,7 +5,8 @@
 pub struct Frame {
     /// The level bound L, 1 to 30: the cube goes from 0 to 2^L on each axis, relative to `low`.
     pub l: u8,
-    /// The least coordinates of all rows, in whole scaled units; 0 where there are no rows.
+    /// The least coordinates of all rows, in whole scaled units, each at most 2,147,483,647 in absolute value; 0 where there are
+    /// no rows.
     pub low: [i64; 3],
     /// How many rows the used vertex element has.
     pub vertices: u64,

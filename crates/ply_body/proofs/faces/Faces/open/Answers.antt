@@ -1,4 +1,4 @@
-use Rattle.std.proofs.Common.{◌∙◌, ap, subst, sym, arith, ◌≤◌, ◌≡◌, List}
+use Rattle.std.proofs.Common.{◌∙◌, ap, arith, List}
 use Rattle.ply_head.specs.declared.element.Element.{Element}
 use Rattle.ply_body.specs.Inputs.{vertex_count}
 use Rattle.ply_body.proofs.VertexCounts.{few_vertices}
