@@ -21,7 +21,7 @@ use Rattle.ply_body.specs.declared.polygon.Polygon.{Polygon as CodePolygon}
 use Rattle.ply_body.specs.declared.place.Place.{Place}
 use Rattle.ply_body.specs.declared.face_row.Front.{Front}
 use Rattle.ply_body.specs.Items.{◌>>=◌, Items, ItemPlace, items_told, item_as, count_of, skipped}
-use Rattle.ply_body.specs.Bodies.{Setting, fan_count, fault_of, row_count}
+use Rattle.ply_body.specs.Bodies.{Setting, fan_count, row_count}
 use Rattle.ply_body.specs.declared.frame.Frame.{Frame}
 use Rattle.ply_body.specs.Inputs.{points_of, triangle_at}
 use Rattle.ply_body.specs.Spots.{HoldsRows, IsFrameOf}

@@ -8,7 +8,7 @@ use Rattle.ply_head.specs.declared.element.Element.{Element}
 use Rattle.ply_head.specs.Heads.{IsOther, IsVertexElement}
 use Rattle.ply_body.specs.declared.fault.Flaw.{Flaw}
 use Rattle.ply_body.specs.declared.fault.BodyFault.{BodyFault}
-use Rattle.ply_body.specs.declared.fault.BodyFault.TheVariants.{InputFault, WorkFault, WorkDamage}
+use Rattle.ply_body.specs.declared.fault.BodyFault.TheVariants.{WorkFault, WorkDamage}
 use Rattle.ply_body.specs.declared.hull.Hull.{Hull}
 use Rattle.ply_body.specs.Items.{Items, Takes, Refuses}
 use Rattle.ply_body.specs.Bodies.{Setting, RowItems, nothing_used, with_property, with_properties, fault_of, rows, row_count, too_wide, elements, no_input}
