@@ -161,6 +161,10 @@ fn expect_part(
     Ok(())
 }
 
+// The header of three vertices and one face.
+const HEAD: &str =
+    "ply\nformat ascii 1.0\nelement vertex 3\nproperty int x\nproperty int y\nproperty int z\nelement face 1\nproperty list uchar int vertex_indices\nend_header\n";
+
 // The note of one triangle.
 const NOTE: &str = "finest tris 1 dropped 0 vertices 3\n";
 
@@ -319,6 +323,165 @@ fn a_refused_mesh_is_told_by_its_row(rt: HostRuntime) -> Result<(), Fail> {
             status,
             "at {name}"
         );
+    }
+    Ok(())
+}
+
+// Three vertices and one triangle in ASCII, refused at the first, a middle and the last item of the last row.
+#[test]
+fn each_item_of_a_row_may_be_refused(rt: HostRuntime) -> Result<(), Fail> {
+    let alloc = rt.alloc();
+    let rows: [(&str, [&str; 3], InputKind); 3] = [
+        ("short", ["", "0", "0 4"], InputKind::Short),
+        (
+            "no number",
+            ["a 4 0", "0 4- 0", "0 4 1e"],
+            InputKind::Number,
+        ),
+        (
+            "out of range",
+            ["2147483648 4 0", "0 -2147483648 0", "0 4 3e9"],
+            InputKind::Range,
+        ),
+    ];
+    for (name, texts, kind) in rows {
+        for text in texts {
+            let body = format!(in alloc; "{HEAD}0 0 0\n4 0 0\n{text}")?;
+            let status = refusal(&rt, alloc, body.as_bytes(), name)?;
+            assert_eq!(rt; status, row(kind, 0, 2), "at {text}");
+        }
+    }
+    let faces: [(&str, &str, InputKind); 10] = [
+        ("no face", "", InputKind::Short),
+        ("one corner", "3 0", InputKind::Short),
+        ("two corners", "3 0 1", InputKind::Short),
+        ("no count", "three 0 1 2", InputKind::Number),
+        ("a negative count", "-1", InputKind::Number),
+        ("a point in an index", "3 0 1.0 2", InputKind::Number),
+        ("a letter behind an index", "3 0 1 2x", InputKind::Number),
+        (
+            "the first corner",
+            "3 3 1 2",
+            InputKind::BadIndex { index: 3 },
+        ),
+        (
+            "the second corner",
+            "3 0 -1 2",
+            InputKind::BadIndex { index: -1 },
+        ),
+        (
+            "the third corner",
+            "3 0 1 9",
+            InputKind::BadIndex { index: 9 },
+        ),
+    ];
+    for (name, text, kind) in faces {
+        let body = format!(in alloc; "{HEAD}0 0 0\n4 0 0\n0 4 0\n{text}")?;
+        let status = refusal(&rt, alloc, body.as_bytes(), name)?;
+        assert_eq!(rt; status, row(kind, 1, 0), "at {name}");
+    }
+    Ok(())
+}
+
+// Three vertices and one triangle in a binary format, with a signed count of one byte.
+fn binary_mesh(
+    alloc: Global,
+    is_big: bool,
+    vertices: [i32; 9],
+    count: i8,
+    corners: [i32; 3],
+) -> Result<Vec<u8>, Fail> {
+    let format = if is_big { "big" } else { "little" };
+    let head = format!(in alloc;
+        "ply\nformat binary_{format}_endian 1.0\nelement vertex 3\nproperty int x\nproperty int y\nproperty int z\nelement face 1\nproperty list char int vertex_indices\nend_header\n"
+    )?;
+    let mut bytes = head.as_bytes().to_vec(alloc)?;
+    for value in vertices {
+        bytes.extend_from_slice(&if is_big {
+            value.to_be_bytes()
+        } else {
+            value.to_le_bytes()
+        })?;
+    }
+    bytes.push(count.cast_unsigned())?;
+    for value in corners {
+        bytes.extend_from_slice(&if is_big {
+            value.to_be_bytes()
+        } else {
+            value.to_le_bytes()
+        })?;
+    }
+    Ok(bytes)
+}
+
+const CORNERS: [i32; 9] = [0, 0, 0, 4, 0, 0, 0, 4, 0];
+
+// The same in both binary formats. The last column is how many bytes of the rows are left out at the end.
+#[test]
+fn each_field_of_a_row_may_be_refused(rt: HostRuntime) -> Result<(), Fail> {
+    let alloc = rt.alloc();
+    let least = i32::MIN;
+    let refused: [([i32; 9], i8, [i32; 3], u8, Status); 14] = [
+        (CORNERS, 3, [0, 1, 2], 25, row(InputKind::Short, 0, 2)),
+        (CORNERS, 3, [0, 1, 2], 18, row(InputKind::Short, 0, 2)),
+        (CORNERS, 3, [0, 1, 2], 14, row(InputKind::Short, 0, 2)),
+        (CORNERS, 3, [0, 1, 2], 13, row(InputKind::Short, 1, 0)),
+        (CORNERS, 3, [0, 1, 2], 9, row(InputKind::Short, 1, 0)),
+        (CORNERS, 3, [0, 1, 2], 5, row(InputKind::Short, 1, 0)),
+        (CORNERS, 3, [0, 1, 2], 1, row(InputKind::Short, 1, 0)),
+        (
+            [0, 0, 0, 4, 0, 0, least, 4, 0],
+            3,
+            [0, 1, 2],
+            0,
+            row(InputKind::Range, 0, 2),
+        ),
+        (
+            [0, 0, 0, 4, least, 0, 0, 4, 0],
+            3,
+            [0, 1, 2],
+            0,
+            row(InputKind::Range, 0, 1),
+        ),
+        (
+            [0, 0, least, 4, 0, 0, 0, 4, 0],
+            3,
+            [0, 1, 2],
+            0,
+            row(InputKind::Range, 0, 0),
+        ),
+        (CORNERS, -1, [0, 1, 2], 0, row(InputKind::Number, 1, 0)),
+        (
+            CORNERS,
+            3,
+            [3, 1, 2],
+            0,
+            row(InputKind::BadIndex { index: 3 }, 1, 0),
+        ),
+        (
+            CORNERS,
+            3,
+            [0, -1, 2],
+            0,
+            row(InputKind::BadIndex { index: -1 }, 1, 0),
+        ),
+        (
+            CORNERS,
+            3,
+            [0, 1, least],
+            0,
+            row(InputKind::BadIndex { index: -2147483648 }, 1, 0),
+        ),
+    ];
+    for is_big in [false, true] {
+        for (vertices, count, corners, left_out, status) in refused {
+            let mut bytes = binary_mesh(alloc, is_big, vertices, count, corners)?;
+            for _ in 0..left_out {
+                let _ = bytes.pop();
+            }
+            let answer = refusal(&rt, alloc, &bytes, "a field")?;
+            assert_eq!(rt; answer, status, "at {corners:?} {left_out}");
+        }
     }
     Ok(())
 }
