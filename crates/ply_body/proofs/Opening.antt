@@ -80,11 +80,12 @@ within es next rest = by_case (cases_lt next (length es)) where
   by_case (inl h) = h
   by_case (inr h) = absurd (by_between rest.between rest.face rest.behind (sym (drop_all next es h) ∙ rest.order))
 
-pub before_placed : (es : List Element) (next : ℕ) → IsSmall es → IsRest (drop next es) → IsPlaced es (before next)
-before_placed es next small rest =
+pub before_placed : (v : ℕ) (es : List Element) (next : ℕ) → IsSmall es → IsRest (drop next es) → IsPlaced v es (before next)
+before_placed v es next small rest =
     let here = within es next rest in
     record {
       counted = record { next = omega (arith, small.few); rows = omega arith; corners = omega arith; few = omega arith };
+      corners = λ none. absurd (omega (arith, none));
       behind = record { skipped = All-nil IsSkipped; reach = tt };
       layout = λ none. absurd (omega (arith, none));
       next = omega arith;

@@ -48,10 +48,11 @@ then_walk_fails {fs = fs} {before = before} {mid = mid} {now = now} {f = f} a le
     record { reason = λ s is. later_reason _ _ fs before mid now f (a.told s is) le (b.reason s is) }
 
 -- the place after a step in an element
-pub placed_after : {p p' : Place} {found : Option Corners} (es : List Element) → IsPlaced es p → Goes p p' found → IsBehind (current p.next es) p' → p'.left ≤ p.left
-    → (found ≡ None → p'.polygon.left ≡ 0) → ((0 < p.left → All IsSkipped (current p.next es)) → p.polygon.left ≡ 0 → found ≡ None) → IsPlaced es p'
-placed_after {p} {p'} {found} es it goes behind less ended plain = record {
+pub placed_after : {v : ℕ} {p p' : Place} {found : Option Corners} (es : List Element) → IsPlaced v es p → Goes v p p' found → IsBehind (current p.next es) p' → p'.left ≤ p.left
+    → (found ≡ None → p'.polygon.left ≡ 0) → ((0 < p.left → All IsSkipped (current p.next es)) → p.polygon.left ≡ 0 → found ≡ None) → IsPlaced v es p'
+placed_after {v} {p} {p'} {found} es it goes behind less ended plain = record {
   counted = goes.counted;
+  corners = goes.corners;
   behind = subst (λ (n : ℕ). IsBehind (current n es) p') (sym goes.next) behind;
   layout = λ h. subst (λ (n : ℕ). IsRowLayout (current n es)) (sym goes.next) (it.layout (omega (arith, less)));
   next = omega (arith, goes.next, it.next);
@@ -86,7 +87,7 @@ next_kind el es (b ∷ bs) face behind is between_other face_used behind_other =
 
 -- an element that begins
 pub record Begins (v : ℕ) (es : List Element) (p : Place) (el : Element) : Type 0 where
-  pub placed : IsPlaced es (begun p el)
+  pub placed : IsPlaced v es (begun p el)
   pub walks : (i : ItemPlace) (l : Option Bytes) → Walks v es p i l (begun p el) i l []
 
 few_rows : (el : Element) → el.count ≤ 2147483648 → 0 + row_count el ≤ 2147483648
@@ -98,7 +99,7 @@ current_more n es el h is =
     let e' : drop n es ≡ el ∷ drop (n + 1) es = drop_more es n el h ∙ ap (λ (x : Element). x ∷ drop (n + 1) es) (sym is) in
     rw (e, e') refl
 
-module _ (v : ℕ) (es : List Element) (p : Place) (el : Element) (small : IsSmall es) (it : IsPlaced es p) (ended : IsEnded p) (done : p.left ≡ 0)
+module _ (v : ℕ) (es : List Element) (p : Place) (el : Element) (small : IsSmall es) (it : IsPlaced v es p) (ended : IsEnded p) (done : p.left ≡ 0)
     (h : p.next < length es) (is : el ≡ get_or es p.next el) where
   here : drop p.next es ≡ el ∷ drop (p.next + 1) es
   here = drop_more es p.next el h ∙ ap (λ (x : Element). x ∷ drop (p.next + 1) es) (sym is)
@@ -117,6 +118,7 @@ module _ (v : ℕ) (es : List Element) (p : Place) (el : Element) (small : IsSma
   begins_so layout order same = record {
     placed = record {
       counted = begun_counted;
+      corners = λ none. absurd (omega (arith, none));
       behind = record { skipped = All-nil IsSkipped; reach = tt };
       layout = λ some. rw its layout;
       next = omega arith;

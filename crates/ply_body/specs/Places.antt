@@ -1,6 +1,6 @@
 -- Places in the rows of an element, and what the steps from one to the next say.
 use Rattle.std.specs.Prelude.{false, ◌≡◌, ◌≢◌, ◌⊎◌, ℕ, zero, suc, ◌+◌, ◌≤◌, ◌<◌, List, [], ◌∷◌, ◌++◌, length, drop, All, Option, Some, None, Result, Ok, Err}
-use Rattle.std.specs.Option.{option_map, ForSome}
+use Rattle.std.specs.Option.{option_map, ForSome, IfSome}
 use Rattle.tpz_io.specs.Causes.{Rose}
 use Rattle.tpz_base.specs.declared.shape.Tri.{Tri}
 use Rattle.tpz_base.specs.Cubes.{Row}
@@ -107,6 +107,10 @@ told_at s ps es p items told = option_map (coming s (cursor_at p ps es)) (items_
 abbrev pub tally : Place → ℕ
 tally p = p.formed + fan_count p.polygon.taken
 
+-- corners below the number of vertices
+abbrev pub IsNear : ℕ → Corners → Type 0
+IsNear v c = (c.i < v) × (c.j < v) × (c.k < v)
+
 abbrev pub IsReach : Option ℕ → ℕ → Type 0
 IsReach None n = Unit {0}
 IsReach (Some k) n = k ≤ n
@@ -132,6 +136,10 @@ pub record IsCounted (p : Place) : Type 0 where
   pub rows : p.row + p.left ≤ 2147483648
   pub corners : p.polygon.taken + p.polygon.left < 9223372036854775808
   pub few : p.formed + fan_count p.polygon.taken ≤ 2147483648
+
+-- the corners that were taken are below the number of vertices
+abbrev pub HasNearCorners : ℕ → Place → Type 0
+HasNearCorners v p = 0 < p.polygon.taken → (p.polygon.first < v) × (p.polygon.last < v)
 
 -- what is left of the row isn't used
 pub record IsBehind (ps : List Property) (p : Place) : Type 0 where
@@ -159,9 +167,11 @@ pub record Fails (v : ℕ) (ps : List Property) (p : Place) (items : ItemPlace) 
   pub reason : (s : Setting) (es : List Element) → s.vertices ≡ v → IsReason (told_at s ps es p items left) before now f
 
 -- A step to a new place finds a triangle or none.
-pub record Goes (p p' : Place) (found : Option Corners) : Type 0 where
+pub record Goes (v : ℕ) (p p' : Place) (found : Option Corners) : Type 0 where
   pub counted : IsCounted p'
+  pub corners : HasNearCorners v p'
   pub tally : tally p' ≡ tally p + length (faces_of found)
+  pub near : IfSome found (IsNear v)
   pub next : p'.next ≡ p.next
 
 abbrev properties_at : List Element → List Property
@@ -188,8 +198,9 @@ pub record IsBefore (es : List Element) (p : Place) : Type 0 where
   pub plain : 0 < p.left → All IsSkipped (current p.next es)
 
 -- a place in the elements behind the used vertex element
-pub record IsPlaced (es : List Element) (p : Place) : Type 0 where
+pub record IsPlaced (v : ℕ) (es : List Element) (p : Place) : Type 0 where
   pub counted : IsCounted p
+  pub corners : HasNearCorners v p
   pub behind : IsBehind (current p.next es) p
   pub layout : 0 < p.left → IsRowLayout (current p.next es)
   pub next : p.next ≤ length es

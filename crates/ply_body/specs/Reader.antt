@@ -22,7 +22,8 @@ reading_of r = record {
 -- It can read on: the points are loaded, and each triangle that was formed before the place was given or dropped.
 pub record IsReady (r : Inside) (frame : Frame) : Type 0 where
   pub frame_small : IsSmallFrame frame
-  pub placed : IsPlaced r.walk.elements.items r.walk.place
+  pub vertices : frame.vertices ≡ r.walk.vertices
+  pub placed : IsPlaced r.walk.vertices r.walk.elements.items r.walk.place
   pub counted : r.given + r.walk.dropped ≤ tally r.walk.place
 
 pub record IsReader (r : Inside) : Type 0 where

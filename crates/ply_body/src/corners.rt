@@ -1,10 +1,10 @@
 // The triangle of three corners, whose points are in the blob.
-ghost use Rattle.std.specs.Prelude.{◌≡◌, ◌≤◌, ℕ, List, IfOk, IfErr};
+ghost use Rattle.std.specs.Prelude.{◌≡◌, ◌≤◌, ◌<◌, ℕ, List, IfOk, IfErr};
 ghost use Rattle.std.specs.Option.{ForSome};
 ghost use Rattle.tpz_base.specs.Cubes.{Row};
 ghost use Rattle.ply_body.specs.Inputs.{point_at, points_of, triangle_at};
 ghost use Rattle.ply_body.specs.Spots.{HoldsPoints, HoldsRows, IsFrameOf, IsInCube, IsSmallFrame, IsTriInCube};
-ghost use Rattle.ply_body.specs.Places.{face_of, IsWorkReason};
+ghost use Rattle.ply_body.specs.Places.{face_of, IsNear, IsWorkReason};
 
 use crate::fault::BodyFault;
 use crate::frame::Frame;
@@ -13,13 +13,14 @@ use crate::spots::{PointBuffer, PointFault};
 use tpz_base::{Point, Tri};
 use tpz_io::Blob;
 
-// The point of a corner. A vertex element without properties has no rows, and its vertices have the coordinates 0.
+// The point of a corner.
 fn point_of<B: Blob>(
     buffer: &mut PointBuffer,
     points: &mut B,
     frame: &Frame,
     number: u32,
 ) -> Result<Point, BodyFault>
+    requires number { number < frame.now.vertices }
     requires small { IsSmallFrame frame.now }
     requires points { ForSome (B.held points.old) (HoldsPoints frame.now) }
     ensures point { IfOk result (λ p. ForSome (B.held points.old) (λ bytes. (rows : List Row)
@@ -29,9 +30,6 @@ fn point_of<B: Blob>(
     ensures held { B.held points.new ≡ B.held points.old }
     ensures later { B.faults points.old ≤ B.faults points.new }
 {
-    if number as u64 >= frame.vertices {
-        return Ok(Point { x: 0, y: 0, z: 0 });
-    }
     match buffer.read_point(points, frame, number) {
         Ok(point) => Ok(point),
         Err(PointFault::Failed) => Err(BodyFault::WorkFault),
@@ -46,6 +44,7 @@ pub fn tri_of<B: Blob>(
     frame: &Frame,
     corners: Corners,
 ) -> Result<Tri, BodyFault>
+    requires corners { IsNear frame.now.vertices corners }
     requires small { IsSmallFrame frame.now }
     requires points { ForSome (B.held points.old) (HoldsPoints frame.now) }
     ensures tri { IfOk result (λ t. ForSome (B.held points.old) (λ bytes. (rows : List Row)

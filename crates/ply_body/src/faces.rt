@@ -108,6 +108,7 @@ impl Faces {
             × (input_told self.old (I.left src.old) ≡ option_map (with_spots rows) (coming_told self.new (I.left src.new)))
             × ForSome (B.held points.new) (HoldsRows rows)) }
         ensures frame { IfOk result (λ frame. self.new.frame ≡ Some frame) }
+        ensures vertices { IfOk result (λ frame. frame.vertices ≡ self.old.setting.vertices) }
         ensures opened { IfOk result (λ frame. (self.new.refusal ≡ None) × (self.new.given ≡ 0) × (self.new.dropped ≡ 0)) }
         // Each refusal has its cause, and stays.
         ensures refused { (f : BodyFault) → result ≡ Err f → IsRefusal f → ForSome (input_told self.old (I.left src.old)) (λ input. input ≡ Err f) }

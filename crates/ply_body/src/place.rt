@@ -1,9 +1,9 @@
 // A place in the elements, and the steps from one to the next.
-ghost use Rattle.std.specs.Prelude.{All, ◌≡◌, ◌≤◌, ◌<◌, ◌+◌, ◌-◌, [], ℕ, List, length, Ok, None, IfOk, IfErr, OnOk};
+ghost use Rattle.std.specs.Prelude.{All, ◌≡◌, ◌≤◌, ◌<◌, ◌+◌, ◌-◌, [], ℕ, List, length, Ok, None, IfOk, IfErr, IfSome, OnOk};
 ghost use Rattle.ply_head.specs.declared.element.Property.{Property};
 ghost use Rattle.ply_head.specs.Heads.{IsSkipped, IsSmall};
 ghost use Rattle.ply_body.specs.Faults.{row_fault};
-ghost use Rattle.ply_body.specs.Places.{before, begun, current as properties_before, faces_of, tally, Fails, Goes, IsBehind, IsCounted, IsEnded, IsPlaced, IsRowLayout, Moves, Walks, WalkEnds, WalkFails};
+ghost use Rattle.ply_body.specs.Places.{before, begun, current as properties_before, faces_of, tally, Fails, Goes, HasNearCorners, IsBehind, IsCounted, IsEnded, IsNear, IsPlaced, IsRowLayout, Moves, Walks, WalkEnds, WalkFails};
 
 use crate::face_row::{pass_all, read_front};
 use crate::fault::{BodyFault, Flaw};
@@ -61,8 +61,9 @@ impl Place {
         requires left { 0 < self.old.polygon.left }
         requires vertices { vertices ≤ 2147483648 }
         requires counted { IsCounted self.old }
+        requires corners { HasNearCorners vertices self.old }
         ensures moves { IfOk result (λ found. (ps : List Property) → Moves vertices ps self.old items.old (I.left src.old) self.new items.new (I.left src.new) (faces_of found)) }
-        ensures goes { IfOk result (λ found. Goes self.old self.new found) }
+        ensures goes { IfOk result (λ found. Goes vertices self.old self.new found) }
         ensures taken { IfOk result (λ found. self.old.polygon.left ≡ self.new.polygon.left + 1) }
         ensures behind { IfOk result (λ found. self.new.behind ≡ self.old.behind) }
         ensures left { IfOk result (λ found. self.new.left ≡ self.old.left) }
@@ -154,9 +155,10 @@ impl Place {
     ) -> Result<Option<Corners>, BodyFault>
         requires vertices { vertices ≤ 2147483648 }
         requires counted { IsCounted self.old }
+        requires corners { HasNearCorners vertices self.old }
         requires behind { IsBehind properties.now self.old }
         ensures moves { IfOk result (λ found. Moves vertices properties.now self.old items.old (I.left src.old) self.new items.new (I.left src.new) (faces_of found)) }
-        ensures goes { IfOk result (λ found. Goes self.old self.new found) }
+        ensures goes { IfOk result (λ found. Goes vertices self.old self.new found) }
         ensures behind { IfOk result (λ found. IsBehind properties.now self.new) }
         ensures left { IfOk result (λ found. self.new.left ≡ self.old.left) }
         ensures ended { result ≡ Ok None → IsEnded self.new }
@@ -183,10 +185,11 @@ impl Place {
     ) -> Result<Option<Corners>, BodyFault>
         requires vertices { vertices ≤ 2147483648 }
         requires counted { IsCounted self.old }
+        requires corners { HasNearCorners vertices self.old }
         requires behind { IsBehind properties.now self.old }
         requires layout { 0 < self.old.left → IsRowLayout properties.now }
         ensures moves { IfOk result (λ found. Moves vertices properties.now self.old items.old (I.left src.old) self.new items.new (I.left src.new) (faces_of found)) }
-        ensures goes { IfOk result (λ found. Goes self.old self.new found) }
+        ensures goes { IfOk result (λ found. Goes vertices self.old self.new found) }
         ensures behind { IfOk result (λ found. IsBehind properties.now self.new) }
         ensures left { IfOk result (λ found. self.new.left ≤ self.old.left) }
         ensures ended { result ≡ Ok None → IsEnded self.new × (self.new.left ≡ 0) }
@@ -229,10 +232,11 @@ impl Place {
     ) -> Result<Option<Corners>, BodyFault>
         requires vertices { vertices ≤ 2147483648 }
         requires small { IsSmall elements.now }
-        requires placed { IsPlaced elements.now self.old }
+        requires placed { IsPlaced vertices elements.now self.old }
         ensures walks { IfOk result (λ found. Walks vertices elements.now self.old items.old (I.left src.old) self.new items.new (I.left src.new) (faces_of found)) }
-        ensures placed { IfOk result (λ found. IsPlaced elements.now self.new) }
+        ensures placed { IfOk result (λ found. IsPlaced vertices elements.now self.new) }
         ensures tally { IfOk result (λ found. tally self.new ≡ tally self.old + length (faces_of found)) }
+        ensures near { IfOk result (λ found. IfSome found (IsNear vertices)) }
         ensures out { result ≡ Ok None → WalkEnds vertices elements.now self.old items.old (I.left src.old) [] }
         ensures failed { IfErr result (λ f. WalkFails vertices elements.now self.old items.old (I.left src.old) (I.faults src.old) (I.faults src.new) f) }
         ensures later { I.faults src.old ≤ I.faults src.new }

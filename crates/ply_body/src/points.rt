@@ -7,7 +7,7 @@ ghost use Rattle.ply_head.specs.Heads.{IsLaidOut, IsOfVertex, IsOther, IsSmall, 
 ghost use Rattle.ply_body.specs.declared.fault.BodyFault.{BodyFault};
 ghost use Rattle.ply_body.specs.Items.{items_told};
 ghost use Rattle.ply_body.specs.Bodies.{elements as input_from, no_input, row_count as row_count_of, too_wide as too_wide_of};
-ghost use Rattle.ply_body.specs.Inputs.{setting_of};
+ghost use Rattle.ply_body.specs.Inputs.{setting_of, vertex_count};
 ghost use Rattle.ply_body.specs.Spots.{row_of, HoldsRows, IsFrameOf, IsSmallFrame, IsSmallRow};
 ghost use Rattle.ply_body.specs.VertexRows.{AreRead, IsOfInput, IsVertexAt, PassesElements, RefusesElements, RefusesRowAt, RefusesRows, RefusesVertex, TakesRow, TakesRows};
 ghost use Rattle.ply_body.specs.Readings.{faces_from, with_spots, IsRefusal, IsRest};
@@ -158,6 +158,7 @@ fn load_vertex<I: Source, B: Blob>(
     ensures rows { IfOk result (λ frame. (rows : List Row) × IsFrameOf frame rows × (too_wide_of rows ≡ None)
         × ForSome (B.held points.new) (HoldsRows rows)
         × TakesRows digits number element.now (items_told items.old (I.left src.old)) rows (items_told items.new (I.left src.new))) }
+    ensures vertices { IfOk result (λ frame. frame.vertices ≡ row_count_of element.now) }
     ensures small { IfOk result IsSmallFrame }
     ensures refused { (f : BodyFault) → result ≡ Err f → IsRefusal f → RefusesVertex digits number element.now
         (items_told items.old (I.left src.old)) (items_told items.new (I.left src.new)) f }
@@ -209,6 +210,7 @@ pub fn load<I: Source, B: Blob>(
         ≡ option_map (λ rest. with_spots rows (faces_from (setting_of elements.now digits) loaded.next (drop loaded.next elements.now) rest))
         (items_told items.new (I.left src.new)))
         × ForSome (B.held points.new) (HoldsRows rows)) }
+    ensures vertices { IfOk result (λ loaded. loaded.frame.vertices ≡ vertex_count elements.now) }
     ensures behind { IfOk result (λ loaded. IsRest (drop loaded.next elements.now)) }
     ensures small { IfOk result (λ loaded. IsSmallFrame loaded.frame) }
     ensures refused { (f : BodyFault) → result ≡ Err f → IsRefusal f

@@ -1,5 +1,5 @@
 // The polygon of a row, corner by corner.
-ghost use Rattle.std.specs.Prelude.{◌≡◌, ◌≤◌, ◌<◌, ◌+◌, ◌∷◌, ◌++◌, ℕ, List, length};
+ghost use Rattle.std.specs.Prelude.{◌≡◌, ◌⊎◌, ◌≤◌, ◌<◌, ◌+◌, ◌∷◌, ◌++◌, ℕ, List, length, IfSome};
 ghost use Rattle.ply_body.specs.Bodies.{fan, fan_count, is_too_many as has_too_many};
 ghost use Rattle.ply_body.specs.Places.{faces_of, polygon_front};
 
@@ -64,7 +64,10 @@ impl Polygon {
         ensures kind { self.new.kind ≡ self.old.kind }
         ensures taken { self.new.taken ≡ self.old.taken + 1 }
         ensures left { self.old.left ≡ self.new.left + 1 }
+        ensures last { self.new.last ≡ corner }
+        ensures first { (self.new.first ≡ corner) ⊎ ((0 < self.old.taken) × (self.new.first ≡ self.old.first)) }
         ensures formed { fan_count self.new.taken ≡ fan_count self.old.taken + length (faces_of result) }
+        ensures corners { IfSome result (λ face. (0 < self.old.taken) × (face.i ≡ self.old.first) × (face.j ≡ self.old.last) × (face.k ≡ corner)) }
     {
         let taken = self.taken;
         let first = self.first;

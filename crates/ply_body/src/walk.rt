@@ -41,9 +41,10 @@ impl Walk {
     ) -> Result<Option<Tri>, BodyFault>
         requires vertices { self.old.vertices ≤ 2147483648 }
         requires elements { IsSmall self.old.elements.items }
-        requires placed { IsPlaced self.old.elements.items self.old.place }
+        requires placed { IsPlaced self.old.vertices self.old.elements.items self.old.place }
         requires dropped { self.old.dropped ≤ tally self.old.place }
         requires frame { IsSmallFrame frame.now }
+        requires counts { frame.now.vertices ≡ self.old.vertices }
         requires points { ForSome (B.held points.old) (HoldsPoints frame.now) }
         ensures elements { self.new.elements ≡ self.old.elements }
         ensures vertices { self.new.vertices ≡ self.old.vertices }
@@ -56,7 +57,7 @@ impl Walk {
             × WalkEnds self.old.vertices self.old.elements.items self.old.place self.old.items (I.left src.old) lost
             × (self.new.dropped ≡ self.old.dropped + length lost)
             × AreBroken frame.now (B.held points.old) lost }
-        ensures placed { IfOk result (λ t. IsPlaced self.old.elements.items self.new.place) }
+        ensures placed { IfOk result (λ t. IsPlaced self.old.vertices self.old.elements.items self.new.place) }
         ensures counts { IfOk result (λ t. tally self.new.place + self.old.dropped ≡ tally self.old.place + self.new.dropped + found_count t) }
         ensures few { (given : ℕ) → given + self.old.dropped ≤ tally self.old.place → given + self.new.dropped ≤ 2147483648 }
         ensures whole { IfOk result (λ t. IfSome t (λ tri. IsTrue (is_whole tri))) }

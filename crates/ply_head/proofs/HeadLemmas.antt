@@ -1,11 +1,8 @@
 -- Which test of a line holds, and what a line keeps.
-use Rattle.std.proofs.Common.{◌≡◌, ℕ, suc, ◌<◌, ◌≤◌, Bool, true, false, ◌&&◌, ◌||◌, refl, List, [], ◌∷◌, ◌++◌, length, arith, ap, sym, ◌∙◌, subst, length-append}
+use Rattle.std.proofs.Common.{◌≡◌, ℕ, suc, ◌<◌, ◌≤◌, Bool, true, false, ◌&&◌, ◌||◌, refl, List, [], ◌∷◌, ◌++◌, length, arith, ap, subst, length-append}
 use Rattle.std.specs.Prelude.{◌==◌, nat_lt, nat_le, not, bytes_eq, codes, find, Option, Some, None, option_map, take, All}
-use Rattle.std.specs.Option.{option_map_or}
-use Rattle.std.specs.List.{after_first, position_or_len}
+use Rattle.std.specs.List.{after_first}
 use Rattle.std.proofs.lemmas.Bool.Decides.{nat_tests}
-use Rattle.std.proofs.lemmas.Option.{slice_get_within}
-use Rattle.std.proofs.lemmas.List.Folds.{find_at}
 use Rattle.std.proofs.lemmas.List.Elements.{All-append, All-cons, All-head, All-tail, All-nil, All-push}
 use Rattle.ply_head.specs.Numbers.{value}
 use Rattle.ply_head.specs.declared.element.Kind.{Kind}
@@ -13,10 +10,10 @@ use Rattle.ply_head.specs.declared.element.Role.TheVariants.{Skip}
 use Rattle.ply_head.specs.declared.fault.HeadFault.{HeadFault}
 use Rattle.ply_head.specs.declared.fault.HeadFault.TheVariants as fault
 use Rattle.ply_head.specs.declared.text.Line.{Line}
-use Rattle.ply_head.specs.Headers.{Seen, Named, Declared, fault_in, faults, form, Form, Passed, FormatLine, ElementLine, ScalarLine, ListLine, EndLine, NoForm, is_end, is_vertex, is_face, has_coordinates, has_too_many, with_form, with_last, declared, kind_of, used_elements}
+use Rattle.ply_head.specs.Headers.{Seen, Named, Declared, fault_in, faults, form, Form, Passed, FormatLine, ElementLine, ScalarLine, ListLine, EndLine, NoForm, is_end, is_vertex, is_face, has_too_many, with_form, with_last, declared, kind_of, used_elements}
 use Rattle.ply_head.specs.Heads.{IsRefusal, IsLaidOut, IsSmall}
 use Rattle.ply_head.specs.Steps.{first_of}
-use Rattle.ply_head.proofs.LayoutLemmas.{IsTidy, IsTidyElement, IsPlain, parted, parted_any, laid_out, small}
+use Rattle.ply_head.proofs.LayoutLemmas.{IsTidy, IsTidyElement, IsPlain, parted_any, vertex_parts, laid_out, small}
 
 -- a line past the limit behind the first
 pub too_many : (s : Seen) (l : Line) → (l.number == 1) ≡ false → nat_lt 1048576 l.end ≡ true → fault_in s l ≡ Some (fault.TooMany l.number)
@@ -137,17 +134,11 @@ end_test : (b c : Bool) → b ≡ true → (b && not c) ≡ false → c ≡ true
 end_test true c end fails = not_false c fails
 end_test false c end fails = absurd (cc)
 
-vertex_found : (o : Option Declared) → option_map_or has_coordinates o false ≡ true → (e : Declared) × (o ≡ Some e)
-vertex_found None holds = absurd (cc)
-vertex_found (Some e) holds = (e, refl)
-
 pub at_the_end : (s : Seen) (l : Line) → fault_in s l ≡ None → is_end (form l) ≡ true → IsTidy s
     → IsLaidOut (used_elements s.elements) × IsSmall (used_elements s.elements)
 unfolding NoneHolds
 at_the_end s l none end tidy =
     let holds = none_holds (faults s l) none in
-    let found = vertex_found (find is_vertex s.elements) (end_test (is_end (form l)) _ end holds.1.1.1.1.1.1.1.0) in
-    let within = slice_get_within s.elements (position_or_len is_vertex s.elements) found.0 (sym (find_at is_vertex s.elements) ∙ found.1) in
-    let vertex = parted is_vertex s.elements found.0 within in
+    let (vertex, coordinates) = vertex_parts s.elements (end_test (is_end (form l)) _ end holds.1.1.1.1.1.1.1.0) in
     let face = parted_any is_face (after_first is_vertex s.elements) (end_test (is_end (form l)) _ end holds.1.1.1.1.1.1.1.1.0) in
-    (laid_out s.elements vertex face tidy.each, small s.elements vertex face tidy.each tidy.few)
+    (laid_out s.elements vertex face tidy.each coordinates, small s.elements vertex face tidy.each tidy.few)

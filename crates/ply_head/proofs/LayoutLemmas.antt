@@ -1,19 +1,21 @@
 -- What holds of the elements at the end of a header.
-use Rattle.std.proofs.Common.{◌≡◌, ◌≢◌, ℕ, suc, ◌+◌, ◌<◌, ◌≤◌, Bool, true, false, cond, List, [], ◌∷◌, ◌++◌, length, take, drop, get_or, refl, sym, ◌∙◌, ap, arith, append_assoc, length-append, ◌⊎◌, inl, inr}
-use Rattle.std.specs.Prelude.{map, Option, Some, None, All, is_none, is_some, not, ◌&&◌, ◌||◌, codes}
+use Rattle.std.proofs.Common.{◌≡◌, ◌≢◌, ℕ, zero, suc, ◌+◌, ◌<◌, ◌≤◌, Bool, true, false, cond, List, [], ◌∷◌, ◌++◌, length, take, drop, get_or, refl, sym, ◌∙◌, ap, arith, append_assoc, length-append, ◌⊎◌, inl, inr}
+use Rattle.std.specs.Prelude.{map, find, Option, Some, None, All, is_none, is_some, not, ◌&&◌, ◌||◌, codes}
+use Rattle.std.specs.Option.{option_map_or}
 use Rattle.std.specs.List.{before_first, after_first, position_or_len, list_any}
 use Rattle.std.proofs.lemmas.List.{length-map, map-append, take_all}
 use Rattle.std.proofs.lemmas.List.Elements.{All-append, All-cons, All-head, All-take, All-drop, All-map, All-nil, All-weaker, All-same}
 use Rattle.std.proofs.lemmas.List.Sums.{split_at_first, passes_at_first}
 use Rattle.std.proofs.Math.Seq.{drop-append_seam, drop-length}
-use Rattle.std.proofs.lemmas.Option.{slice_get_cases}
+use Rattle.std.proofs.lemmas.List.Folds.{find_at}
+use Rattle.std.proofs.lemmas.Option.{get_or_from_slice_get, slice_get_cases, slice_get_within}
 use Rattle.ply_head.specs.declared.element.Role.{Role}
 use Rattle.ply_head.specs.declared.element.Role.TheVariants.{X, Y, Z, Indices}
 use Rattle.ply_head.specs.declared.element.Used.TheVariants.{Other}
 use Rattle.ply_head.specs.declared.element.Kind.{Kind}
 use Rattle.ply_head.specs.declared.element.Property.{Property}
 use Rattle.ply_head.specs.declared.element.Element.{Element}
-use Rattle.ply_head.specs.Headers.{Named, Declared, Seen, from_first, is_vertex, is_face, is_scalar, is_index_list, with_role, element_of, vertex_of, face_of, used_elements}
+use Rattle.ply_head.specs.Headers.{Named, Declared, Seen, from_first, is_vertex, is_face, is_scalar, is_index_list, has_coordinates, with_role, element_of, vertex_of, face_of, used_elements}
 use Rattle.ply_head.specs.Heads.{IsSkipped, IsOther, IsOfVertex, IsVertexElement, IsFaceElement, IsLaidOut, IsSmall}
 use Rattle.tpz_base.specs.Texts.{Bytes}
 
@@ -37,7 +39,7 @@ pub record Parted {A : Type 0} (p : A → Bool) (xs : List A) : Type 0 where
   pub one : take 1 (from_first p xs) ≡ first ∷ []
   pub whole : xs ≡ before_first p xs ++ first ∷ after_first p xs
 
-pub parted : {A : Type 0} (p : A → Bool) (xs : List A) → A → position_or_len p xs < length xs → Parted p xs
+parted : {A : Type 0} (p : A → Bool) (xs : List A) → A → position_or_len p xs < length xs → Parted p xs
 parted p xs d within =
     let whole = split_at_first p xs d within in
     let rest : from_first p xs ≡ get_or xs (position_or_len p xs) d ∷ after_first p xs =
@@ -109,15 +111,57 @@ scalar_role : (role : Role) → role ≢ Indices → (name : Bytes) (ns : List N
 unfolding IsCoordinate
 scalar_role role other name ns each = role_all IsCoordinate role (is_scalar name) ns (λ n scalar _. coordinate role other name n scalar) each
 
-vertex_used : (e : Declared) → IsTidyElement e → IsVertexElement (vertex_of e)
+vertex_found : (o : Option Declared) → option_map_or has_coordinates o false ≡ true → (e : Declared) × (o ≡ Some e) × (has_coordinates e ≡ true)
+vertex_found None holds = absurd (cc)
+vertex_found (Some e) holds = (e, refl, holds)
+
+-- by the first vertex element, which has coordinates
+pub vertex_parts : (es : List Declared) → option_map_or has_coordinates (find is_vertex es) false ≡ true
+    → (v : Parted is_vertex es) × (has_coordinates v.first ≡ true)
+unfolding parted
+vertex_parts es holds =
+    let (e, found, coordinates) = vertex_found (find is_vertex es) holds in
+    let place = position_or_len is_vertex es in
+    let there = sym (find_at is_vertex es) ∙ found in
+    (parted is_vertex es e (slice_get_within es place e there), ap has_coordinates (get_or_from_slice_get es place e e there) ∙ coordinates)
+
+-- a list in which one element is changed has some
+some_changed : {A : Type 0} (f : A → A) (at : ℕ) (x : A) (xs rest : List A)
+    → take at (x ∷ xs) ++ map f (take 1 (drop (length (take at (x ∷ xs))) (x ∷ xs))) ++ rest ≢ []
+some_changed f zero x xs rest none = absurd (cc)
+some_changed f (suc at) x xs rest none = absurd (cc)
+
+none_with_role : (role : Role) (p : Named → Bool) (ns : List Named) → with_role role p ns ≡ [] → ns ≡ []
+none_with_role role p [] none = refl
+none_with_role role p (n ∷ ns) none =
+    absurd (some_changed (λ (m : Named). record m { property = record m.property { role = role } }) (position_or_len p (n ∷ ns)) n ns (after_first p (n ∷ ns)) none)
+
+-- an element with coordinates has properties
+some_named : (e : Declared) → has_coordinates e ≡ true → e.properties ≢ []
+some_named e holds none = let empty : has_coordinates e ≡ false = rw none refl in cc
+
+map_none : (ns : List Named) → map (λ (n : Named). n.property) ns ≡ [] → ns ≡ []
+map_none [] none = refl
+map_none (n ∷ ns) none = absurd (cc)
+
+some_properties : (e : Declared) → has_coordinates e ≡ true → (vertex_of e).properties ≢ []
+some_properties e holds none =
+    some_named e holds
+    (none_with_role Z (is_scalar (codes "z")) e.properties
+    (none_with_role Y (is_scalar (codes "y")) (with_role Z (is_scalar (codes "z")) e.properties)
+    (none_with_role X (is_scalar (codes "x")) (with_role Y (is_scalar (codes "y")) (with_role Z (is_scalar (codes "z")) e.properties))
+    (map_none (with_role X (is_scalar (codes "x")) (with_role Y (is_scalar (codes "y")) (with_role Z (is_scalar (codes "z")) e.properties))) none))))
+
+vertex_used : (e : Declared) → has_coordinates e ≡ true → IsTidyElement e → IsVertexElement (vertex_of e)
 unfolding IsCoordinate
-vertex_used e tidy =
+vertex_used e holds tidy =
     let start = All-weaker IsPlain IsCoordinate plain_coordinate e.properties tidy.plain in
     let z = scalar_role Z (λ e. absurd (cc)) (codes "z") e.properties start in
     let y = scalar_role Y (λ e. absurd (cc)) (codes "y") (with_role Z (is_scalar (codes "z")) e.properties) z in
     let x = scalar_role X (λ e. absurd (cc)) (codes "x") (with_role Y (is_scalar (codes "y")) (with_role Z (is_scalar (codes "z")) e.properties)) y in
     record {
       used = refl;
+      some = some_properties e holds;
       properties = All-map IsOfVertex (λ (n : Named). n.property)
           (with_role X (is_scalar (codes "x")) (with_role Y (is_scalar (codes "y")) (with_role Z (is_scalar (codes "z")) e.properties))) x;
     }
@@ -205,8 +249,8 @@ module _ (es : List Declared) (v : Parted is_vertex es) (f : Parted is_face (aft
   tidy_behind : All IsTidyElement behind
   tidy_behind = after_all IsTidyElement is_vertex es each
 
-  pub laid_out : IsLaidOut (used_elements es)
-  laid_out = record {
+  pub laid_out : has_coordinates v.first ≡ true → IsLaidOut (used_elements es)
+  laid_out holds = record {
     before = before;
     vertex = vertex_of v.first;
     between = between;
@@ -214,7 +258,7 @@ module _ (es : List Declared) (v : Parted is_vertex es) (f : Parted is_face (aft
     behind = rest;
     order = in_order;
     before_other = others (before_first is_vertex es) (before_all IsTidyElement is_vertex es each);
-    vertex_used = vertex_used v.first (first_all IsTidyElement is_vertex es v each);
+    vertex_used = vertex_used v.first holds (first_all IsTidyElement is_vertex es v each);
     between_other = others (before_first is_face behind) (before_all IsTidyElement is_face behind tidy_behind);
     face_used = face_used f.first (index_list f.first f.passes) (first_all IsTidyElement is_face behind f tidy_behind);
     behind_other = others (after_first is_face behind) (after_all IsTidyElement is_face behind tidy_behind);

@@ -1,5 +1,5 @@
 -- What a reader of a header leaves: what the header declares, and the input behind it.
-use Rattle.std.specs.Prelude.{◌≡◌, ◌≢◌, ℕ, ◌≤◌, List, ◌∷◌, ◌++◌, length, drop, All, Option, None, Ok}
+use Rattle.std.specs.Prelude.{◌≡◌, ◌≢◌, ℕ, ◌≤◌, List, [], ◌∷◌, ◌++◌, length, drop, All, Option, None, Ok}
 use Rattle.std.specs.Option.{option_map, ForSome}
 use Rattle.tpz_base.specs.Texts.{Bytes}
 use Rattle.ply_head.specs.declared.element.Format.{Format}
@@ -41,9 +41,10 @@ pub record IsOfVertex (p : Property) : Type 0 where
   pub role : p.role ≢ Indices
   pub lists : p.count_kind ≢ None → IsSkipped p
 
--- the used vertex element
+-- the used vertex element: it has properties, of which some are coordinates
 pub record IsVertexElement (e : Element) : Type 0 where
   pub used : e.used ≡ Vertex
+  pub some : e.properties ≢ []
   pub properties : All IsOfVertex e.properties
 
 -- the used face element: one list of indices, and what is skipped

@@ -1,7 +1,8 @@
-use Rattle.std.proofs.Common.{◌≡◌, ap, Err}
+use Rattle.std.proofs.Common.{◌≡◌, ◌∙◌, ap, Err}
 use Rattle.std.proofs.lemmas.Result.{err_from_is_err_and}
 use Rattle.ply_body.specs.declared.fault.BodyFault.TheVariants.{WorkFault, WorkDamage}
 use Rattle.ply_body.proofs.Layouts.{loaded, refused_before, vertex_refused}
+use Rattle.ply_body.proofs.VertexCounts.{vertex_rows}
 use Rattle.ply_body.proofs.points.load.Goals as goal
 
 pub returns-in_err-skip_elements-clause-refused : goal.returns-in_err-skip_elements-clause-refused
@@ -38,3 +39,8 @@ returns-clause-rows g c =
           c.index-elements-number.is c.in_ok-skip_elements.ensures.passed taken narrow,
       held,
     )
+
+pub returns-clause-vertices : goal.returns-clause-vertices
+returns-clause-vertices g c =
+    c.in_ok-frame.ensures.vertices
+    ∙ vertex_rows c.vertex_number-number.result c.args.elements.now c.index-elements-number.result c.vertex_number-number.ensures c.index-elements-number.is

@@ -21,3 +21,10 @@ returns-in-None-clause-rows g c =
     let all = count ∙ sym c.row_count-count.ensures in
     let narrow = sym (c.too_wide.ensures.first rows are.hull) ∙ c.in-None.is in
     (rows, c.frame_of.ensures.frame rows are.hull all narrow are.small, narrow, where_ok _ c.flush.result (sym c.if-is_err.ensures.value) c.flush.ensures.kept rows all are.kept, taken)
+
+pub returns-in-None-clause-vertices : goal.returns-in-None-clause-vertices
+returns-in-None-clause-vertices g c =
+    let (rows, count, are, taken) = c.in_ok-hull.ensures.rows in
+    let all = count ∙ sym c.row_count-count.ensures in
+    let narrow = sym (c.too_wide.ensures.first rows are.hull) ∙ c.in-None.is in
+    (c.frame_of.ensures.frame rows are.hull all narrow are.small).vertices ∙ count

@@ -1,5 +1,7 @@
-use Rattle.std.proofs.Common.{◌≡◌, subst, ap, arith, Err}
+use Rattle.std.proofs.Common.{◌≡◌, ◌∙◌, subst, sym, ap, arith, Err}
+use Rattle.ply_body.specs.declared.frame.Frame.{Frame}
 use Rattle.ply_body.specs.Spots.{IsSmallFrame}
+use Rattle.ply_body.specs.Readings.{Reading}
 use Rattle.ply_body.proofs.Opening.{before_placed, is_new, loaded_refused, loaded_told}
 use Rattle.ply_body.proofs.faces.Faces.load_points.Goals as goal
 
@@ -10,6 +12,7 @@ invariant_of-self g c =
     let new = is_new r c.args.self.now c.self.view_is c.requires in
     let here = c.before-self-inside.ensures in
     let rest = rw c.as_slice.ensures.value at c.in-Ok.ensures.behind in
+    let counted = rw c.as_slice.ensures.value at c.in-Ok.ensures.vertices in
     record {
       digits_few = it.digits_few;
       small = it.small;
@@ -22,7 +25,8 @@ invariant_of-self g c =
           let same : c.in-Ok.loaded.frame ≡ frame = cc in
           record {
             frame_small = subst IsSmallFrame same c.in-Ok.ensures.small;
-            placed = rw here (before_placed r.walk.elements.items c.in-Ok.loaded.next it.small rest);
+            vertices = ap (λ (f : Frame). f.vertices) (sym same) ∙ counted ∙ sym it.vertices_are;
+            placed = rw here (before_placed r.walk.vertices r.walk.elements.items c.in-Ok.loaded.next it.small rest);
             counted = rw (here, new.given, new.dropped) (omega arith);
           };
     }
@@ -45,3 +49,8 @@ returns-in-Err-clause-refused g c = λ f is refusal.
     let same : c.in-Err.refusal ≡ f = cc in
     let refused = rw c.as_slice.ensures.value at c.in-Err.ensures.refused in
     rw (← c.self.view_is) (loaded_refused r _ f new.next c.self.invariant.vertices_are (refused f (ap Err same) refusal))
+
+pub returns-in-Ok-clause-vertices : goal.returns-in-Ok-clause-vertices
+returns-in-Ok-clause-vertices g c =
+    let counted = rw c.as_slice.ensures.value at c.in-Ok.ensures.vertices in
+    counted ∙ sym c.self.invariant.vertices_are ∙ ap (λ (x : Reading). x.setting.vertices) c.self.view_is

@@ -22,6 +22,7 @@ rows-preserved g c =
     record {
       moves = then_moves (then_moves c.rows.invariant.moves moves) (row.moves c.args.vertices);
       counted = row.counted;
+      near = λ h. absurd (omega (arith, row.taken));
       behind = row.behind;
       left = omega (arith, row.left, c.in_ok-face.ensures.left);
       next = row.next ∙ (goes.next ∙ c.rows.invariant.next);

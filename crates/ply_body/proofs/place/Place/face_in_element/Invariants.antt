@@ -1,13 +1,14 @@
 use Rattle.std.proofs.Common.{◌≡◌, ◌≤◌, ◌<◌, []}
 use Rattle.std.specs.Prelude.{All}
 use Rattle.ply_head.specs.Heads.{IsSkipped}
-use Rattle.ply_body.specs.Places.{tally, IsBehind, IsCounted, Moves}
+use Rattle.ply_body.specs.Places.{tally, HasNearCorners, IsBehind, IsCounted, Moves}
 use Rattle.ply_body.proofs.place.Place.face_in_element.Given as goal
 
 abbrev pub invariant-rows : goal.invariant-rows
 invariant-rows g l = record {
   moves : Moves l.vertices l.properties l.initial.self l.initial.items (g.I.Source.left l.initial.src) l.self l.items (g.I.Source.left l.src) [];
   counted : IsCounted l.self;
+  near : HasNearCorners l.vertices l.self;
   behind : IsBehind l.properties l.self;
   left : l.self.left ≤ l.initial.self.left;
   next : l.self.next ≡ l.initial.self.next;

@@ -15,6 +15,7 @@ corners-preserved g c =
     record {
       moves = then_moves c.corners.invariant.moves (moves c.args.properties.now);
       counted = goes.counted;
+      near = goes.corners;
       behind = c.in_ok-face.ensures.behind ∙ c.corners.invariant.behind;
       left = c.in_ok-face.ensures.left ∙ c.corners.invariant.left;
       next = goes.next ∙ c.corners.invariant.next;

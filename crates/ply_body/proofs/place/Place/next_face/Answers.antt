@@ -47,7 +47,7 @@ elements-preserved g c =
     record {
       walks = subst (λ (q : Place). Walks c.args.vertices es c.args.self.now c.args.items.now (g.I.Source.left c.args.src.now) q c.face_in_element.new.items (g.I.Source.left c.face_in_element.new.src) []) (sym is)
           (then_walks (then_walks c.elements.invariant.walks (walks es moves goes.next)) (new.walks _ _));
-      placed = subst (λ (q : Place). IsPlaced es q) (sym is) new.placed;
+      placed = subst (λ (q : Place). IsPlaced c.args.vertices es q) (sym is) new.placed;
       tally = rw is (omega (arith, goes.tally, c.elements.invariant.tally));
       later = omega arith;
     }

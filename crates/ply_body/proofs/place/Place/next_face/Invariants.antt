@@ -5,7 +5,7 @@ use Rattle.ply_body.proofs.place.Place.next_face.Given as goal
 abbrev pub invariant-elements : goal.invariant-elements
 invariant-elements g l = record {
   walks : Walks l.vertices l.elements l.initial.self l.initial.items (g.I.Source.left l.initial.src) l.self l.items (g.I.Source.left l.src) [];
-  placed : IsPlaced l.elements l.self;
+  placed : IsPlaced l.vertices l.elements l.self;
   tally : tally l.self ≡ tally l.initial.self;
   later : g.I.Source.faults l.initial.src ≤ g.I.Source.faults l.src;
 }

@@ -57,7 +57,7 @@ dropped-preserved g c =
     let it = c.dropped.invariant in
     let face = face_of c.in-Some.corners in
     let walks = rw (c.as_slice.ensures.value, it.elements, it.vertices, c.in-Some.is) at c.in_ok-found.ensures.walks in
-    let placed = rw (c.as_slice.ensures.value, it.elements) at c.in_ok-found.ensures.placed in
+    let placed = rw (c.as_slice.ensures.value, it.elements, it.vertices) at c.in_ok-found.ensures.placed in
     let tally = rw c.in-Some.is at c.in_ok-found.ensures.tally in
     let broken : is_whole c.in_ok-tri.tri ≡ false = search rules in
     record {

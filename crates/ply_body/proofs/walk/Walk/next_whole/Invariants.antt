@@ -12,7 +12,7 @@ invariant-dropped g l = record {
       × AreBroken l.frame (g.B.Blob.held l.initial.points) lost;
   elements : l.self.elements ≡ l.initial.self.elements;
   vertices : l.self.vertices ≡ l.initial.self.vertices;
-  placed : IsPlaced l.initial.self.elements.items l.self.place;
+  placed : IsPlaced l.initial.self.vertices l.initial.self.elements.items l.self.place;
   counts : tally l.self.place + l.initial.self.dropped ≡ tally l.initial.self.place + l.self.dropped;
   held : g.B.Blob.held l.points ≡ g.B.Blob.held l.initial.points;
   input_later : g.I.Source.faults l.initial.src ≤ g.I.Source.faults l.src;
