@@ -1,5 +1,5 @@
 // The items of a row up to the count of its list of indices.
-ghost use Rattle.std.specs.Prelude.{All, ◌≡◌, ◌≤◌, ◌<◌, ℕ, length, Err, Some, IfOk, IsErrOf};
+ghost use Rattle.std.specs.Prelude.{All, ◌≡◌, ◌≤◌, ◌<◌, length, Err, Some, IfOk, IsErrOf};
 ghost use Rattle.tpz_io.specs.Causes.{Rose};
 ghost use Rattle.ply_head.specs.Heads.{IsSkipped};
 ghost use Rattle.ply_body.specs.declared.fault.Flaw.{Flaw};
