@@ -9,10 +9,9 @@ use Rattle.ply_head.specs.declared.element.Element.{Element}
 use Rattle.ply_head.specs.Heads.{IsSkipped, IsOther, IsFaceElement}
 use Rattle.ply_body.specs.declared.fault.Flaw.{Flaw}
 use Rattle.ply_body.specs.declared.fault.BodyFault.{BodyFault}
-use Rattle.ply_body.specs.Items.{◌>>=◌, Items}
+use Rattle.ply_body.specs.Items.{◌>>=◌, Items, passed}
 use Rattle.ply_body.specs.Bodies.{Setting, RowItems, nothing_used, placed, fan_count, rows, row_count, elements, fans, Input, no_input}
 use Rattle.ply_body.specs.Readings.{Polygon, coming}
-use Rattle.ply_body.specs.Places.{passed}
 use Rattle.ply_body.proofs.Binds.{bind_assoc, bind_same, bind_taken, ok_first}
 use Rattle.ply_body.proofs.Coming.{cursor}
 use Rattle.ply_body.proofs.Fans.{no_fan}

@@ -15,10 +15,10 @@ use Rattle.ply_head.specs.Heads.{IsSkipped}
 use Rattle.ply_body.specs.declared.fault.Flaw.{Flaw}
 use Rattle.ply_body.specs.declared.fault.Flaw.TheVariants.{TooManyTris}
 use Rattle.ply_body.specs.declared.fault.BodyFault.{BodyFault}
-use Rattle.ply_body.specs.Items.{◌>>=◌, unless, Items, item_as, index_of, count_of}
+use Rattle.ply_body.specs.Items.{◌>>=◌, unless, Items, item_as, index_of, count_of, passed}
 use Rattle.ply_body.specs.Bodies.{Setting, RowItems, nothing_used, is_too_many, corners, list_of, with_properties, placed, fault_of, fan_count, rows, elements, fan, fans, no_input}
 use Rattle.ply_body.specs.Readings.{Polygon, Cursor, front, coming, with_faces}
-use Rattle.ply_body.specs.Places.{passed, front_of, row_list, RowList, IsRowLayout}
+use Rattle.ply_body.specs.Places.{front_of, row_list, RowList, IsRowLayout}
 use Rattle.ply_body.proofs.Binds.{bind_assoc, bind_same, bind_taken, ok_first, with_bind}
 use Rattle.ply_body.proofs.Fans.{no_fan}
 use Rattle.ply_body.proofs.Passing.{skips_all, both_properties, front_behind}

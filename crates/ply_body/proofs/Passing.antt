@@ -11,9 +11,9 @@ use Rattle.ply_head.specs.declared.element.Role.TheVariants.{X}
 use Rattle.ply_head.specs.declared.element.Property.{Property}
 use Rattle.ply_head.specs.Heads.{IsSkipped}
 use Rattle.ply_body.specs.declared.fault.Flaw.{Flaw}
-use Rattle.ply_body.specs.Items.{◌>>=◌, Items, item, item_as, count_of, skipped}
+use Rattle.ply_body.specs.Items.{◌>>=◌, Items, item, item_as, count_of, pass_one, passed, skipped}
 use Rattle.ply_body.specs.Bodies.{Setting, RowItems, with_property, with_properties}
-use Rattle.ply_body.specs.Places.{pass_one, passed, indices_kind, front_of, IsRowLayout}
+use Rattle.ply_body.specs.Places.{indices_kind, front_of, IsRowLayout}
 use Rattle.ply_body.proofs.Binds.{bind_assoc, bind_same}
 
 -- what stands for a property where there is none

@@ -10,9 +10,11 @@ use Rattle.ply_head.specs.declared.element.Kind.{Kind}
 use Rattle.ply_head.specs.declared.element.Role.{Role}
 use Rattle.ply_head.specs.declared.element.Role.TheVariants.{X, Y, Z, Indices, Skip}
 use Rattle.ply_head.specs.declared.element.Property.{Property}
-use Rattle.ply_body.specs.declared.item.Item.{Item}
-use Rattle.ply_body.specs.Items.{◌>>=◌, Items, coordinate_of, count_of, item, item_as, skipped, Takes, Refuses}
+use Rattle.ply_head.specs.Heads.{IsOfVertex, IsSkipped}
+use Rattle.ply_body.specs.Items.{◌>>=◌, Items, coordinate_of, item_as, pass_one, Takes, Refuses}
 use Rattle.ply_body.specs.Bodies.{Setting, RowItems, scalar, with_property, with_properties}
+use Rattle.ply_body.proofs.Binds.{passes_same}
+use Rattle.ply_body.proofs.Passing.{skips_property}
 
 pub chain : {X Y E : Type 0} (f : Items → Result (X × Items) E) (g : X × Items → Result Y E) (old mid : Option Items) (x : X)
     → option_map f old ≡ option_map (λ i. Ok (x, i)) mid → option_map (λ i. f i >>= g) old ≡ option_map (λ i. g (x, i)) mid
@@ -56,34 +58,36 @@ pub row_ends : (s : Setting) (ps : List Property) (i : ℕ) (u : RowItems) (old 
     → option_map (with_properties s 0 (drop i ps) u) old ≡ option_map (λ items. Ok (u, items)) old
 row_ends s ps i u old past = ap (λ (l : List Property). option_map (with_properties s 0 l u) old) (drop_all i ps past)
 
--- A property by what it is.
+-- A property that isn't used leaves what was used.
 
-pub list_is : (s : Setting) (p : Property) (k : Kind) (u : RowItems) (items : Items) → p.count_kind ≡ Some k → p.role ≡ Skip
-    → with_property s 0 p u items ≡ (item_as count_of k items >>= λ n. (skipped p.kind n.0 n.1 >>= λ rest. Ok (u, rest)))
-list_is s p k u items is role = rw (is, role) refl
+pub unused_taken : (s : Setting) (p : Property) (u : RowItems) (old new : Option Items) → IsSkipped p
+    → option_map (pass_one p) old ≡ option_map Ok new → Takes (with_property s 0 p u) old u new
+unused_taken s p u old new skip taken =
+    passes_same (pass_one p) (with_property s 0 p u) (λ items. Ok (u, items)) old new taken (λ o n e. skips_property s 0 p u o skip ∙ rw e refl)
 
-pub scalar_is : (s : Setting) (p : Property) (u : RowItems) (items : Items) → p.count_kind ≡ None
+pub unused_refused : (s : Setting) (p : Property) (u : RowItems) (old : Option Items) (flaw : Flaw) → IsSkipped p
+    → Refuses (pass_one p) old flaw → Refuses (with_property s 0 p u) old flaw
+unused_refused s p u old flaw skip refused = λ items told. skips_property s 0 p u items skip ∙ rw (refused items told) refl
+
+-- Another property of a vertex is a coordinate.
+
+scalar_is : (s : Setting) (p : Property) (u : RowItems) (items : Items) → IsOfVertex p → p.role ≢ Skip
     → with_property s 0 p u items ≡ scalar s p.role p.kind u items
-scalar_is s p u items is = rw is refl
-
-pub skip_refused : (s : Setting) (kind : Kind) (u : RowItems) (items : Items) (flaw : Flaw) → skipped kind 1 items ≡ Err flaw
-    → scalar s Skip kind u items ≡ Err flaw
-skip_refused s kind u items flaw is = go (item kind items) is
+scalar_is s p u items vertex used = by_count p.count_kind refl
   where
-    left : Item × Items → Result Items Flaw
-    left i = Ok i.1
+    by_count : (k : Option Kind) → p.count_kind ≡ k → with_property s 0 p u items ≡ scalar s p.role p.kind u items
+    by_count None is = rw is refl
+    by_count (Some k) is = absurd (used (vertex.lists (λ none. let both : Some k ≡ None = sym is ∙ none in cc)))
 
-    kept : Item × Items → Result (RowItems × Items) Flaw
-    kept i = Ok (u, i.1)
-
-    go : (next : Result (Item × Items) Flaw) → (next >>= left) ≡ Err flaw → (next >>= kept) ≡ Err flaw
-    go (Ok i) is = absurd (cc)
-    go (Err e) is = cc
-
-pub value_refused : (s : Setting) (role : Role) (kind : Kind) (u : RowItems) (items : Items) (flaw : Flaw) → role ≢ Skip
+value_refused : (s : Setting) (role : Role) (kind : Kind) (u : RowItems) (items : Items) (flaw : Flaw) → role ≢ Skip
     → item_as (coordinate_of s.digits) kind items ≡ Err flaw → scalar s role kind u items ≡ Err flaw
 value_refused s X kind u items flaw used is = rw is refl
 value_refused s Y kind u items flaw used is = rw is refl
 value_refused s Z kind u items flaw used is = rw is refl
 value_refused s Indices kind u items flaw used is = rw is refl
 value_refused s Skip kind u items flaw used is = absurd (used refl)
+
+pub coordinate_refused : (s : Setting) (p : Property) (u : RowItems) (old : Option Items) (flaw : Flaw) → IsOfVertex p → p.role ≢ Skip
+    → Refuses (item_as (coordinate_of s.digits) p.kind) old flaw → Refuses (with_property s 0 p u) old flaw
+coordinate_refused s p u old flaw vertex used refused = λ items told.
+    scalar_is s p u items vertex used ∙ value_refused s p.role p.kind u items flaw used (refused items told)

@@ -1,5 +1,5 @@
 -- The items of a body, and what each means.
-use Rattle.std.specs.Prelude.{◌≡◌, ℕ, zero, suc, ◌^◌, Bool, true, false, ◌&&◌, ◌||◌, List, [], ◌∷◌, length, take, drop, nat_le, nat_lt, ◌==◌, filter, if◌then◌else◌, ℤ, pos, negsuc, ◌*ℤ◌, unsigned_abs, Option, Result, Ok, Err}
+use Rattle.std.specs.Prelude.{◌≡◌, ℕ, zero, suc, ◌^◌, Bool, true, false, ◌&&◌, ◌||◌, List, [], ◌∷◌, length, take, drop, nat_le, nat_lt, ◌==◌, filter, if◌then◌else◌, ℤ, pos, negsuc, ◌*ℤ◌, unsigned_abs, Option, Some, None, Result, Ok, Err}
 use Rattle.std.specs.List.{slice_split}
 use Rattle.std.specs.Option.{option_map, ForSome}
 use Rattle.byteorder.specs.Endian.{big_number, little_number, twos_complement}
@@ -9,6 +9,7 @@ use Rattle.ply_head.specs.declared.element.Format.{Format}
 use Rattle.ply_head.specs.declared.element.Format.TheVariants.{Ascii, Big}
 use Rattle.ply_head.specs.declared.element.Kind.{Kind}
 use Rattle.ply_head.specs.declared.element.Kind.TheVariants.{I8, U8, I16, U16, I32, U32, F32, F64}
+use Rattle.ply_head.specs.declared.element.Property.{Property}
 use Rattle.ply_head.specs.declared.fault.NumberFault.{NumberFault}
 use Rattle.ply_head.specs.declared.fault.NumberFault.TheVariants as number_fault
 use Rattle.ply_head.specs.Numbers.{LIMIT, number, signed, value, is_negative, without_sign, are_digits}
@@ -167,6 +168,18 @@ skipped kind zero items = Ok items
 skipped kind (suc n) items = do
   i ← item kind items
   skipped kind n i.1
+
+-- the items behind those of a property that isn't used
+abbrev pub pass_one : Property → Items → Result Items Flaw
+pass_one p items = by_count p.count_kind where
+  by_count : Option Kind → Result Items Flaw
+  by_count None = skipped p.kind 1 items
+  by_count (Some count_kind) = item_as count_of count_kind items >>= λ n. skipped p.kind n.0 n.1
+
+-- the items behind those of properties that aren't used
+abbrev pub passed : List Property → Items → Result Items Flaw
+passed [] items = Ok items
+passed (p ∷ ps) items = pass_one p items >>= λ rest. passed ps rest
 
 -- Where a reader of items is: the format, how many more bytes are looked at, and bytes that were read and not yet taken.
 pub record ItemPlace : Type 0 where

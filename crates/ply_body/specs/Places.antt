@@ -20,24 +20,12 @@ use Rattle.ply_body.specs.declared.polygon.Corners.{Corners}
 use Rattle.ply_body.specs.declared.polygon.Polygon.{Polygon as CodePolygon}
 use Rattle.ply_body.specs.declared.place.Place.{Place}
 use Rattle.ply_body.specs.declared.face_row.Front.{Front}
-use Rattle.ply_body.specs.Items.{◌>>=◌, Items, ItemPlace, items_told, item_as, count_of, skipped}
+use Rattle.ply_body.specs.Items.{◌>>=◌, Items, ItemPlace, items_told, item_as, count_of, pass_one}
 use Rattle.ply_body.specs.Bodies.{Setting, fan_count, row_count}
 use Rattle.ply_body.specs.declared.frame.Frame.{Frame}
 use Rattle.ply_body.specs.Inputs.{points_of, triangle_at}
 use Rattle.ply_body.specs.Spots.{HoldsRows, IsFrameOf}
 use Rattle.ply_body.specs.Readings.{Polygon, Cursor, front, coming, with_faces, IsRest}
-
--- the items behind those of a property that isn't used
-abbrev pub pass_one : Property → Items → Result Items Flaw
-pass_one p items = by_count p.count_kind where
-  by_count : Option Kind → Result Items Flaw
-  by_count None = skipped p.kind 1 items
-  by_count (Some count_kind) = item_as count_of count_kind items >>= λ n. skipped p.kind n.0 n.1
-
--- the items behind those of properties that aren't used
-abbrev pub passed : List Property → Items → Result Items Flaw
-passed [] items = Ok items
-passed (p ∷ ps) items = pass_one p items >>= λ rest. passed ps rest
 
 -- the kind of the count of a list of indices
 abbrev pub indices_kind : Property → Option Kind

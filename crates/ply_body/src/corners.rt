@@ -1,5 +1,5 @@
 // The triangle of three corners, whose points are in the blob.
-ghost use Rattle.std.specs.Prelude.{◌≡◌, ◌≤◌, ◌<◌, ℕ, List, IfOk, IfErr};
+ghost use Rattle.std.specs.Prelude.{◌≡◌, ◌≤◌, ◌<◌, List, IfOk, IfErr};
 ghost use Rattle.std.specs.Option.{ForSome};
 ghost use Rattle.tpz_base.specs.Cubes.{Row};
 ghost use Rattle.ply_body.specs.Inputs.{point_at, points_of, triangle_at};

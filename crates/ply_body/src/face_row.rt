@@ -1,14 +1,14 @@
-// The items of a row: what isn't used, and the count of the list of indices.
-ghost use Rattle.std.specs.Prelude.{All, ◌≡◌, ◌≤◌, ◌<◌, ℕ, length, Err, Ok, Some, IfOk, OnOk, IsErrOf};
-ghost use Rattle.std.specs.Option.{option_map};
+// The items of a row up to the count of its list of indices.
+ghost use Rattle.std.specs.Prelude.{All, ◌≡◌, ◌≤◌, ◌<◌, length, Err, Some, IfOk, IsErrOf};
 ghost use Rattle.tpz_io.specs.Causes.{Rose};
 ghost use Rattle.ply_head.specs.Heads.{IsSkipped};
 ghost use Rattle.ply_body.specs.declared.fault.Flaw.{Flaw};
 ghost use Rattle.ply_body.specs.Items.{count_of, items_told, item_as, Refuses, Takes};
-ghost use Rattle.ply_body.specs.Places.{front_of, front_read, indices_kind, pass_one, passed, rest_of, IsReach, IsRowLayout};
+ghost use Rattle.ply_body.specs.Places.{front_of, front_read, indices_kind, rest_of, IsReach, IsRowLayout};
 
 use crate::fault::Flaw;
 use crate::item_reader::{ItemFault, ItemReader};
+use crate::unused::pass;
 use ply_head::{Kind, Property, Role};
 use tpz_io::Source;
 
@@ -29,42 +29,6 @@ fn kind_of_count(property: &Property) -> Option<Kind>
         Role::Indices => property.count_kind,
         _ => None,
     }
-}
-
-// Takes the items of a property that aren't used.
-fn pass<I: Source>(
-    items: &mut ItemReader,
-    src: &mut I,
-    property: &Property,
-) -> Result<(), ItemFault>
-    ensures taken { OnOk result (option_map (pass_one property.now) (items_told items.old (I.left src.old)) ≡ option_map Ok (items_told items.new (I.left src.new))) }
-    ensures refused { (flaw : Flaw) → result ≡ Err (ItemFault.Flaw flaw) → Refuses (pass_one property.now) (items_told items.old (I.left src.old)) flaw }
-    ensures input { IsErrOf result ItemFault.Input → Rose (I.faults src.old) (I.faults src.new) }
-    ensures later { I.faults src.old ≤ I.faults src.new }
-{
-    let count_kind = match property.count_kind {
-        Some(count_kind) => count_kind,
-        None => return items.skip(src, property.kind, 1),
-    };
-    let count = items.count(src, count_kind)?;
-    items.skip(src, property.kind, count)
-}
-
-/// Takes the items of properties that aren't used.
-pub fn pass_all<I: Source>(
-    items: &mut ItemReader,
-    src: &mut I,
-    properties: &[Property],
-) -> Result<(), ItemFault>
-    ensures taken { OnOk result (option_map (passed properties.now) (items_told items.old (I.left src.old)) ≡ option_map Ok (items_told items.new (I.left src.new))) }
-    ensures refused { (flaw : Flaw) → result ≡ Err (ItemFault.Flaw flaw) → Refuses (passed properties.now) (items_told items.old (I.left src.old)) flaw }
-    ensures input { IsErrOf result ItemFault.Input → Rose (I.faults src.old) (I.faults src.new) }
-    ensures later { I.faults src.old ≤ I.faults src.new }
-{
-    'properties: for property in properties {
-        pass(items, src, property)?;
-    }
-    Ok(())
 }
 
 /// Takes what stands in a row up to the count of its list of indices.

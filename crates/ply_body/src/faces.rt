@@ -1,5 +1,5 @@
 // The triangles of an input.
-ghost use Rattle.std.specs.Prelude.{◌≡◌, ◌≢◌, ◌≤◌, ◌⊎◌, ◌+◌, ◌∷◌, ◌++◌, [], ℕ, List, All, length, Ok, Err, Some, None, false, IfOk, IsTrue, IsErrOf};
+ghost use Rattle.std.specs.Prelude.{◌≡◌, ◌≢◌, ◌≤◌, ◌⊎◌, ◌+◌, ◌++◌, ℕ, List, All, Ok, Err, Some, None, false, IfOk, IsTrue, IsErrOf};
 ghost use Rattle.std.specs.Option.{ForSome, option_map};
 ghost use Rattle.tpz_io.specs.Causes.{Rose};
 ghost use Rattle.tpz_base.specs.declared.shape.Tri.{Tri};
@@ -10,7 +10,7 @@ ghost use Rattle.ply_body.specs.declared.fault.BodyFault.{BodyFault};
 ghost use Rattle.ply_body.specs.declared.frame.Frame.{Frame};
 ghost use Rattle.ply_body.specs.Inputs.{is_vertex_element, points_of, triangle_at, vertex_count};
 ghost use Rattle.ply_body.specs.Spots.{HoldsPoints, HoldsRows, IsFrameOf, IsSmallFrame, IsTriInCube};
-ghost use Rattle.ply_body.specs.Readings.{coming_told, input_told, opened, with_faces, with_spots, GivesFace, GivesNone, IsOpened, IsRefusal};
+ghost use Rattle.ply_body.specs.Readings.{coming_told, input_told, opened, with_spots, GivesFace, GivesNone, IsOpened, IsRefusal};
 
 use crate::fault::BodyFault;
 use crate::frame::Frame;

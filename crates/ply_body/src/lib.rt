@@ -21,6 +21,7 @@ mod spots;
 #[cfg(test)]
 mod spots_tests;
 mod token;
+mod unused;
 mod walk;
 mod whole_number;
 

@@ -5,11 +5,12 @@ ghost use Rattle.ply_head.specs.Heads.{IsSkipped, IsSmall};
 ghost use Rattle.ply_body.specs.Faults.{row_fault};
 ghost use Rattle.ply_body.specs.Places.{before, begun, current as properties_before, faces_of, tally, Fails, Goes, HasNearCorners, IsBehind, IsCounted, IsEnded, IsNear, IsPlaced, IsRowLayout, Moves, Walks, WalkEnds, WalkFails};
 
-use crate::face_row::{pass_all, read_front};
+use crate::face_row::read_front;
 use crate::fault::{BodyFault, Flaw};
 use crate::item_reader::{ItemFault, ItemReader, fault_at};
 use crate::polygon::{Corners, Polygon, fan_size, is_too_many};
 use crate::row::row_count;
+use crate::unused::pass_all;
 use ply_head::{Element, Property};
 use tpz_io::Source;
 

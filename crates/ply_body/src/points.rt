@@ -1,5 +1,5 @@
 // The rows up to the end of the used vertex element.
-ghost use Rattle.std.specs.Prelude.{◌≡◌, ◌≢◌, ◌≤◌, ◌*◌, ◌∷◌, [], ℕ, List, All, length, drop, Ok, Err, None, IfOk, OnOk, IsErrOf};
+ghost use Rattle.std.specs.Prelude.{◌≡◌, ◌≢◌, ◌≤◌, ◌*◌, [], ℕ, List, All, length, drop, Ok, Err, None, IfOk, OnOk, IsErrOf};
 ghost use Rattle.std.specs.Option.{ForSome, option_map};
 ghost use Rattle.tpz_io.specs.Causes.{Rose};
 ghost use Rattle.tpz_base.specs.Cubes.{Row};

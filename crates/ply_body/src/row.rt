@@ -1,7 +1,7 @@
 // The items of a row that has no corners, taken one by one.
-ghost use Rattle.std.specs.Prelude.{◌≡◌, ◌≢◌, ◌≤◌, ℕ, unsigned_abs, All, Err, None, Some, IfOk, IsErrOf};
+ghost use Rattle.std.specs.Prelude.{◌≡◌, ◌≤◌, unsigned_abs, All, Err, IfOk, IsErrOf};
 ghost use Rattle.tpz_io.specs.Causes.{Rose};
-ghost use Rattle.ply_head.specs.Heads.{IsOfVertex, IsSkipped};
+ghost use Rattle.ply_head.specs.Heads.{IsOfVertex};
 ghost use Rattle.ply_body.specs.declared.fault.Flaw.{Flaw};
 ghost use Rattle.ply_body.specs.Bodies.{row_count as rows_of, with_coordinate as with_coordinate_of};
 ghost use Rattle.ply_body.specs.Items.{items_told};
@@ -10,7 +10,8 @@ ghost use Rattle.ply_body.specs.VertexRows.{TakesProperty, RefusesProperty, Take
 
 use crate::item_reader::{ItemFault, ItemReader};
 use crate::spots::Spot;
-use ply_head::{Element, Kind, Property, Role};
+use crate::unused::pass;
+use ply_head::{Element, Property, Role};
 use tpz_io::Source;
 
 fn with_coordinate(spot: Spot, role: Role, value: i32) -> Spot
@@ -27,80 +28,31 @@ fn with_coordinate(spot: Spot, role: Role, value: i32) -> Spot
     }
 }
 
-// Takes the items of a list that isn't used.
-fn skip_list<I: Source>(
+// Takes the items of a property: a coordinate, or what isn't used.
+fn read_property<I: Source>(
     items: &mut ItemReader,
-    property: Property,
-    count_kind: Kind,
-    spot: Spot,
-    src: &mut I,
-) -> Result<Spot, ItemFault>
-    requires spot { IsSmallRow (row_of spot) }
-    requires list { property.count_kind ≡ Some count_kind }
-    requires role { property.role ≡ Role.Skip }
-    ensures taken { IfOk result (λ after. (digits : ℕ) → TakesProperty digits property (row_of spot)
-        (items_told items.old (I.left src.old)) (row_of after) (items_told items.new (I.left src.new))) }
-    ensures small { IfOk result (λ after. IsSmallRow (row_of after)) }
-    ensures refused { (flaw : Flaw) → result ≡ Err (ItemFault.Flaw flaw)
-        → (digits : ℕ) → RefusesProperty digits property (row_of spot) (items_told items.old (I.left src.old)) flaw }
-    ensures input { IsErrOf result ItemFault.Input → Rose (I.faults src.old) (I.faults src.new) }
-    ensures later { I.faults src.old ≤ I.faults src.new }
-{
-    let count = items.count(src, count_kind)?;
-    items.skip(src, property.kind, count)?;
-    Ok(spot)
-}
-
-// Takes the item of a property that is no list.
-fn read_scalar<I: Source>(
-    items: &mut ItemReader,
-    property: Property,
+    property: &Property,
     digits: u8,
     spot: Spot,
     src: &mut I,
 ) -> Result<Spot, ItemFault>
     requires digits { digits ≤ 9 }
     requires spot { IsSmallRow (row_of spot) }
-    requires scalar { property.count_kind ≡ None }
-    requires role { property.role ≢ Role.Indices }
-    ensures taken { IfOk result (λ after. TakesProperty digits property (row_of spot)
+    requires property { IsOfVertex property.now }
+    ensures taken { IfOk result (λ after. TakesProperty digits property.now (row_of spot)
         (items_told items.old (I.left src.old)) (row_of after) (items_told items.new (I.left src.new))) }
     ensures small { IfOk result (λ after. IsSmallRow (row_of after)) }
     ensures refused { (flaw : Flaw) → result ≡ Err (ItemFault.Flaw flaw)
-        → RefusesProperty digits property (row_of spot) (items_told items.old (I.left src.old)) flaw }
+        → RefusesProperty digits property.now (row_of spot) (items_told items.old (I.left src.old)) flaw }
     ensures input { IsErrOf result ItemFault.Input → Rose (I.faults src.old) (I.faults src.new) }
     ensures later { I.faults src.old ≤ I.faults src.new }
 {
     if property.role == Role::Skip {
-        items.skip(src, property.kind, 1)?;
+        pass(items, src, property)?;
         return Ok(spot);
     }
     let value = items.coordinate(src, property.kind, digits)?;
     Ok(with_coordinate(spot, property.role, value))
-}
-
-fn read_property<I: Source>(
-    items: &mut ItemReader,
-    property: Property,
-    digits: u8,
-    spot: Spot,
-    src: &mut I,
-) -> Result<Spot, ItemFault>
-    requires digits { digits ≤ 9 }
-    requires spot { IsSmallRow (row_of spot) }
-    requires property { IsOfVertex property }
-    ensures taken { IfOk result (λ after. TakesProperty digits property (row_of spot)
-        (items_told items.old (I.left src.old)) (row_of after) (items_told items.new (I.left src.new))) }
-    ensures small { IfOk result (λ after. IsSmallRow (row_of after)) }
-    ensures refused { (flaw : Flaw) → result ≡ Err (ItemFault.Flaw flaw)
-        → RefusesProperty digits property (row_of spot) (items_told items.old (I.left src.old)) flaw }
-    ensures input { IsErrOf result ItemFault.Input → Rose (I.faults src.old) (I.faults src.new) }
-    ensures later { I.faults src.old ≤ I.faults src.new }
-{
-    match property.count_kind {
-        Some(count_kind) => skip_list(items, property, count_kind, spot, src),
-        None => read_scalar(items, property, digits, spot, src),
-    }
 }
 
 /// Takes the items of a row: the coordinates by their roles, each 0 where none has the role, and all else skipped.
@@ -122,7 +74,7 @@ pub fn read_row<I: Source>(
 {
     let mut spot = Spot { x: 0, y: 0, z: 0 };
     'row: for property in properties {
-        spot = read_property(items, *property, digits, spot, src)?;
+        spot = read_property(items, property, digits, spot, src)?;
     }
     Ok(spot)
 }

@@ -3,7 +3,8 @@ use Rattle.std.proofs.lemmas.List.{take_rest}
 use Rattle.ply_body.specs.declared.fault.BodyFault.{BodyFault}
 use Rattle.ply_body.specs.Bodies.{fault_of}
 use Rattle.ply_body.specs.Readings.{coming}
-use Rattle.ply_body.specs.Places.{cursor_at, passed, polygon_of, rest_of, told_at, IsReason}
+use Rattle.ply_body.specs.Items.{passed}
+use Rattle.ply_body.specs.Places.{cursor_at, polygon_of, rest_of, told_at, IsReason}
 use Rattle.ply_body.proofs.Binds.{item_reason, passes_same, refused_told, told_none}
 use Rattle.ply_body.proofs.Coming.{cursor, end_row_step, end_row_refused}
 use Rattle.ply_body.proofs.place.Place.end_row.Goals as goal

@@ -1,8 +1,7 @@
 use Rattle.std.proofs.Common.{◌≡◌, ◌≤◌, drop}
 use Rattle.std.specs.Option.{option_map}
-use Rattle.ply_body.specs.Items.{items_told}
-use Rattle.ply_body.specs.Places.{passed}
-use Rattle.ply_body.proofs.face_row.pass_all.Given as goal
+use Rattle.ply_body.specs.Items.{items_told, passed}
+use Rattle.ply_body.proofs.unused.pass_all.Given as goal
 
 abbrev pub invariant-properties : goal.invariant-properties
 invariant-properties g l = record {

@@ -1,10 +1,9 @@
 use Rattle.std.proofs.Common.{◌≡◌, refl, ap, Err}
 use Rattle.std.proofs.lemmas.Result.{err_from_is_err_and}
 use Rattle.ply_body.specs.declared.item_reader.ItemFault.TheVariants.{Flaw}
-use Rattle.ply_body.specs.Items.{item_as, count_of, skipped}
-use Rattle.ply_body.specs.Places.{pass_one}
+use Rattle.ply_body.specs.Items.{item_as, count_of, pass_one, skipped}
 use Rattle.ply_body.proofs.Binds.{takes_same, same_refused}
-use Rattle.ply_body.proofs.face_row.pass.Goals as goal
+use Rattle.ply_body.proofs.unused.pass.Goals as goal
 
 pub returns-in-None-clause-refused : goal.returns-in-None-clause-refused
 returns-in-None-clause-refused g c = λ flaw is x told. rw c.in-None.is (c.skip.ensures.refused flaw is x told)

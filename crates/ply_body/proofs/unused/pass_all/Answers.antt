@@ -1,10 +1,10 @@
 use Rattle.std.proofs.Common.{◌≡◌, ap, drop, Err}
 use Rattle.std.proofs.lemmas.Result.{err_from_is_err_and}
 use Rattle.ply_body.specs.declared.item_reader.ItemFault.TheVariants.{Flaw}
-use Rattle.ply_body.specs.Places.{passed}
+use Rattle.ply_body.specs.Items.{passed}
 use Rattle.ply_body.proofs.Binds.{same_refused}
 use Rattle.ply_body.proofs.Passing.{passed_refused}
-use Rattle.ply_body.proofs.face_row.pass_all.Goals as goal
+use Rattle.ply_body.proofs.unused.pass_all.Goals as goal
 
 pub returns-in_err-pass-clause-refused : goal.returns-in_err-pass-clause-refused
 returns-in_err-pass-clause-refused g c = λ flaw is.
