@@ -34,36 +34,36 @@ at x y z = row_at (pos x) (pos y) (pos z)
 face : ℕ → ℕ → ℕ → Face
 face i j k = record { i = i; j = j; k = k }
 
-lines_1 : List Bytes
+triangle_lines : List Bytes
 unfolding head
-lines_1 = head (codes "0") (codes "3") (codes "1") ++ codes "0 0 0" ∷ codes "4 0 0" ∷ codes "0 4 0" ∷ codes "3 0 1 2" ∷ []
+triangle_lines = head (codes "0") (codes "3") (codes "1") ++ codes "0 0 0" ∷ codes "4 0 0" ∷ codes "0 4 0" ∷ codes "3 0 1 2" ∷ []
 
-input_1 : Input
+triangle_input : Input
 unfolding at face
-input_1 = record { rows = at 0 0 0 ∷ at 4 0 0 ∷ at 0 4 0 ∷ []; faces = face 0 1 2 ∷ [] }
+triangle_input = record { rows = at 0 0 0 ∷ at 4 0 0 ∷ at 0 4 0 ∷ []; faces = face 0 1 2 ∷ [] }
 
-row_1 : default_input (joined lines_1) ≡ Ok input_1
-unfolding ended joined head at face lines_1 input_1
-row_1 = refl
+one_triangle : default_input (joined triangle_lines) ≡ Ok triangle_input
+unfolding ended joined head at face triangle_lines triangle_input
+one_triangle = refl
 
-row_2 : default_input (joined (head (codes "0") (codes "1") (codes "0") ++ codes "7 7 7" ∷ []))
+one_vertex : default_input (joined (head (codes "0") (codes "1") (codes "0") ++ codes "7 7 7" ∷ []))
     ≡ Ok (record { rows = at 7 7 7 ∷ []; faces = [] })
 unfolding ended joined head at
-row_2 = refl
+one_vertex = refl
 
-row_5 : default_input (joined (codes "ply" ∷ codes "format ascii 1.0" ∷ codes "element vertex 1" ∷ []) ++ codes "property int x")
+unended_header : default_input (joined (codes "ply" ∷ codes "format ascii 1.0" ∷ codes "element vertex 1" ∷ []) ++ codes "property int x")
     ≡ Err (InHead (head_fault.Line 4))
 unfolding ended joined
-row_5 = refl
+unended_header = refl
 
-row_6 : default_input (joined (head (codes "0") (codes "1") (codes "0") ++ codes "0 0" ∷ [])) ≡ Err (InBody (fault.Short 0 0))
+short_row : default_input (joined (head (codes "0") (codes "1") (codes "0") ++ codes "0 0" ∷ [])) ≡ Err (InBody (fault.Short 0 0))
 unfolding ended joined head
-row_6 = refl
+short_row = refl
 
 -- every line ended by CR LF
-row_1_with_returns : default_input (ended (13 ∷ 10 ∷ []) lines_1) ≡ Ok input_1
-unfolding ended head at face lines_1 input_1
-row_1_with_returns = refl
+triangle_with_returns : default_input (ended (13 ∷ 10 ∷ []) triangle_lines) ≡ Ok triangle_input
+unfolding ended head at face triangle_lines triangle_input
+triangle_with_returns = refl
 
 -- a count of vertices, and no body
 no_body : default_input (joined (head (codes "0") (codes "2147483648") (codes "0"))) ≡ Err (InBody (fault.Short 0 0))
@@ -100,23 +100,23 @@ square : Bytes → List Bytes
 unfolding head
 square face = head (codes "0") (codes "4") (codes "1") ++ codes "0 0 0" ∷ codes "4 0 0" ∷ codes "4 4 0" ∷ codes "0 4 0" ∷ face ∷ []
 
-row_9 : default_input (joined (square (codes "4 0 1 2 3"))) ≡ Ok (record {
+square_as_polygon : default_input (joined (square (codes "4 0 1 2 3"))) ≡ Ok (record {
   rows = at 0 0 0 ∷ at 4 0 0 ∷ at 4 4 0 ∷ at 0 4 0 ∷ [];
   faces = face 0 1 2 ∷ face 0 2 3 ∷ [];
 })
 unfolding ended joined head at face square
-row_9 = refl
+square_as_polygon = refl
 
-row_10 : default_input (joined (square (codes "3 0 1 4"))) ≡ Err (InBody (fault.BadIndex 1 0 (pos 4)))
+index_of_none : default_input (joined (square (codes "3 0 1 4"))) ≡ Err (InBody (fault.BadIndex 1 0 (pos 4)))
 unfolding ended joined head square
-row_10 = refl
+index_of_none = refl
 
-row_10_dropped : default_input (joined (square (codes "3 0 1 1"))) ≡ Ok (record {
+triangle_not_whole : default_input (joined (square (codes "3 0 1 1"))) ≡ Ok (record {
   rows = at 0 0 0 ∷ at 4 0 0 ∷ at 4 4 0 ∷ at 0 4 0 ∷ [];
   faces = face 0 1 1 ∷ [];
 })
 unfolding ended joined head at face square
-row_10_dropped = refl
+triangle_not_whole = refl
 
 -- a binary header
 binary : Bytes → List Bytes → List Bytes
@@ -127,57 +127,57 @@ binary format coordinates =
 shorts : List Bytes
 shorts = codes "property short x" ∷ codes "property short y" ∷ codes "property short z" ∷ []
 
-row_11 : default_input (joined (binary (codes "binary_little_endian") shorts)
-    ++ 0 ∷ 0 ∷ 0 ∷ 0 ∷ 0 ∷ 0 ∷ 4 ∷ 0 ∷ 0 ∷ 0 ∷ 0 ∷ 0 ∷ 0 ∷ 0 ∷ 4 ∷ 0 ∷ 0 ∷ 0 ∷ 3 ∷ 0 ∷ 0 ∷ 0 ∷ 0 ∷ 1 ∷ 0 ∷ 0 ∷ 0 ∷ 2 ∷ 0 ∷ 0 ∷ 0 ∷ []) ≡ Ok input_1
-unfolding ended joined at face input_1 binary shorts
-row_11 = refl
+little_shorts : default_input (joined (binary (codes "binary_little_endian") shorts)
+    ++ 0 ∷ 0 ∷ 0 ∷ 0 ∷ 0 ∷ 0 ∷ 4 ∷ 0 ∷ 0 ∷ 0 ∷ 0 ∷ 0 ∷ 0 ∷ 0 ∷ 4 ∷ 0 ∷ 0 ∷ 0 ∷ 3 ∷ 0 ∷ 0 ∷ 0 ∷ 0 ∷ 1 ∷ 0 ∷ 0 ∷ 0 ∷ 2 ∷ 0 ∷ 0 ∷ 0 ∷ []) ≡ Ok triangle_input
+unfolding ended joined at face triangle_input binary shorts
+little_shorts = refl
 
-row_11_big : default_input (joined (binary (codes "binary_big_endian") shorts)
-    ++ 0 ∷ 0 ∷ 0 ∷ 0 ∷ 0 ∷ 0 ∷ 0 ∷ 4 ∷ 0 ∷ 0 ∷ 0 ∷ 0 ∷ 0 ∷ 0 ∷ 0 ∷ 4 ∷ 0 ∷ 0 ∷ 3 ∷ 0 ∷ 0 ∷ 0 ∷ 0 ∷ 0 ∷ 0 ∷ 0 ∷ 1 ∷ 0 ∷ 0 ∷ 0 ∷ 2 ∷ []) ≡ Ok input_1
-unfolding ended joined at face input_1 binary shorts
-row_11_big = refl
+big_shorts : default_input (joined (binary (codes "binary_big_endian") shorts)
+    ++ 0 ∷ 0 ∷ 0 ∷ 0 ∷ 0 ∷ 0 ∷ 0 ∷ 4 ∷ 0 ∷ 0 ∷ 0 ∷ 0 ∷ 0 ∷ 0 ∷ 0 ∷ 4 ∷ 0 ∷ 0 ∷ 3 ∷ 0 ∷ 0 ∷ 0 ∷ 0 ∷ 0 ∷ 0 ∷ 0 ∷ 1 ∷ 0 ∷ 0 ∷ 0 ∷ 2 ∷ []) ≡ Ok triangle_input
+unfolding ended joined at face triangle_input binary shorts
+big_shorts = refl
 
-row_12_float : default_input (joined (binary (codes "binary_little_endian")
+binary_floats : default_input (joined (binary (codes "binary_little_endian")
     (codes "property float x" ∷ codes "property int y" ∷ codes "property int z" ∷ []))) ≡ Err (InHead (head_fault.FloatBinary 9))
 unfolding ended joined binary
-row_12_float = refl
+binary_floats = refl
 
 wide_rows : Bytes → Bytes
 unfolding ended joined head
 wide_rows x = joined (head (codes "0") (codes "2") (codes "0") ++ codes "0 0 0" ∷ (x ++ codes " 0 0") ∷ [])
 
-row_7 : default_input (wide_rows (codes "1073741824")) ≡ Ok (record { rows = at 0 0 0 ∷ at 1073741824 0 0 ∷ []; faces = [] })
+widest_axis : default_input (wide_rows (codes "1073741824")) ≡ Ok (record { rows = at 0 0 0 ∷ at 1073741824 0 0 ∷ []; faces = [] })
 unfolding ended joined head at wide_rows
-row_7 = refl
+widest_axis = refl
 
-row_7_wide : default_input (wide_rows (codes "1073741825")) ≡ Err (InBody (fault.Extent 0 (pos 0) (pos 1073741825)))
+too_wide_axis : default_input (wide_rows (codes "1073741825")) ≡ Err (InBody (fault.Extent 0 (pos 0) (pos 1073741825)))
 unfolding ended joined head wide_rows
-row_7_wide = refl
+too_wide_axis = refl
 
 -- the cubes of some rows
-level_1 : level_bound (at 0 0 0 ∷ at 4 0 0 ∷ at 0 4 0 ∷ []) ≡ 2
+level_of_triangle : level_bound (at 0 0 0 ∷ at 4 0 0 ∷ at 0 4 0 ∷ []) ≡ 2
 unfolding at
-level_1 = refl
+level_of_triangle = refl
 
-level_2 : level_bound (at 7 7 7 ∷ []) ≡ 1
+level_of_vertex : level_bound (at 7 7 7 ∷ []) ≡ 1
 unfolding at
-level_2 = refl
+level_of_vertex = refl
 
-level_7 : level_bound (at 0 0 0 ∷ at 1073741824 0 0 ∷ []) ≡ 30
+level_of_widest : level_bound (at 0 0 0 ∷ at 1073741824 0 0 ∷ []) ≡ 30
 unfolding at
-level_7 = refl
+level_of_widest = refl
 
 scanned_rows : List Row
 scanned_rows = row_at (neg_ℤ (pos 37830)) (pos 127940) (pos 4475) ∷ row_at (neg_ℤ (pos 44779)) (pos 128887) (pos 1905)
     ∷ row_at (pos 2) (neg_ℤ (pos 3)) (pos 1000000) ∷ []
 
-level_8 : level_bound scanned_rows ≡ 20
+level_of_scanned : level_bound scanned_rows ≡ 20
 unfolding scanned_rows
-level_8 = refl
+level_of_scanned = refl
 
-low_8 : low_of scanned_rows ≡ row_at (neg_ℤ (pos 44779)) (neg_ℤ (pos 3)) (pos 1905)
+low_of_scanned : low_of scanned_rows ≡ row_at (neg_ℤ (pos 44779)) (neg_ℤ (pos 3)) (pos 1905)
 unfolding scanned_rows
-low_8 = refl
+low_of_scanned = refl
 
 -- Limits, with a small room or many triangles before.
 zeros : List Bytes → Items
@@ -215,12 +215,12 @@ lack_at_end : lack_of 7 (codes "12 3 4") ≡ Short
 lack_at_end = refl
 
 -- a float that isn't used is skipped
-row_12_skipped : default_input (joined (binary (codes "binary_little_endian")
+skipped_float : default_input (joined (binary (codes "binary_little_endian")
     (codes "property int x" ∷ codes "property int y" ∷ codes "property float nx" ∷ codes "property int z" ∷ []))
     ++ 1 ∷ 0 ∷ 0 ∷ 0 ∷ 2 ∷ 0 ∷ 0 ∷ 0 ∷ 0 ∷ 0 ∷ 128 ∷ 63 ∷ 255 ∷ 255 ∷ 255 ∷ 255 ∷ [] ++ 0 ∷ 0 ∷ 0 ∷ 0 ∷ 0 ∷ 0 ∷ 0 ∷ 0 ∷ 0 ∷ 0 ∷ 128 ∷ 63 ∷ 0 ∷ 0 ∷ 0 ∷ 128 ∷ [])
     ≡ Err (InBody (fault.Range 0 1))
 unfolding ended joined binary
-row_12_skipped = refl
+skipped_float = refl
 
 -- the mesh of the square as one polygon, and a triangle that isn't whole
 square_mesh : mesh_of (at 0 0 0 ∷ at 4 0 0 ∷ at 4 4 0 ∷ at 0 4 0 ∷ []) (face 0 1 2 ∷ face 0 1 1 ∷ face 0 2 3 ∷ [])
