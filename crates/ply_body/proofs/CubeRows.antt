@@ -13,8 +13,8 @@ use Rattle.std.proofs.lemmas.List.Elements.{All-nil, All-head, All-tail, All-fro
 use Rattle.tpz_base.specs.Points.{point}
 use Rattle.tpz_base.specs.Cubes.{Row, extent, least, less, level_bound, low_of, most, natural_of, widest}
 use Rattle.ply_body.specs.declared.frame.Frame.{Frame}
-use Rattle.ply_body.specs.Inputs.{point_at, points_of}
-use Rattle.ply_body.specs.Spots.{row_of, IsFrameOf, IsNear, IsOver, IsSmallRow}
+use Rattle.ply_body.specs.Inputs.{point_at}
+use Rattle.ply_body.specs.Spots.{row_of, spots_of, AreSpots, IsFrameOf, IsNear, IsOver, IsSmallRow}
 use Rattle.ply_body.specs.Hulls.{level_from, lower, higher, high_of, HasHull, IsExtent, IsHullOf}
 use Rattle.ply_body.specs.declared.hull.Hull.{Hull}
 use Rattle.ply_body.specs.declared.fault.BodyFault.{BodyFault}
@@ -148,7 +148,7 @@ near_at rows l r wide over under = let low = low_of rows in let high = high_of r
 }
 
 -- each row is in the cube of the frame
-pub row_near : (frame : Frame) (rows : List Row) (n : ℕ) (d : Row) → IsFrameOf frame rows → n < length rows → IsNear frame.l (low_of rows) (get_or rows n d)
+row_near : (frame : Frame) (rows : List Row) (n : ℕ) (d : Row) → IsFrameOf frame rows → n < length rows → IsNear frame.l (low_of rows) (get_or rows n d)
 row_near frame rows n d is below =
     let wide : widest rows ≤ 2 ^ level_bound rows = covers (widest rows) (range_with_len 1 30) is.narrow in
     subst (λ (l : ℕ). IsNear l (low_of rows) (get_or rows n d)) (sym is.l)
@@ -160,8 +160,13 @@ place_of low [] n d below = absurd (omega arith)
 place_of low (r ∷ rows) zero d below = refl
 place_of low (r ∷ rows) (suc n) d below = place_of low rows n d (omega arith)
 
-pub point_at_is : (rows : List Row) (n : ℕ) (d : Row) → n < length rows → point_at (points_of rows) n ≡ less (low_of rows) (get_or rows n d)
-point_at_is rows n d below = place_of (low_of rows) rows n d below
+pub point_at_is : (low : Row) (rows : List Row) (n : ℕ) (d : Row) → n < length rows → point_at (spots_of low rows) n ≡ less low (get_or rows n d)
+point_at_is low rows n d below = place_of low rows n d below
+
+-- The rows of a frame are points of its cube.
+pub frame_spots : (frame : Frame) (rows : List Row) → IsFrameOf frame rows → AreSpots frame (low_of rows) rows
+frame_spots frame rows is =
+    record { least = is.low; vertices = is.vertices; small = is.small; near = λ n d below. row_near frame rows n d is below }
 
 -- The level that covers a width.
 

@@ -23,8 +23,8 @@ use Rattle.ply_body.specs.declared.face_row.Front.{Front}
 use Rattle.ply_body.specs.Items.{◌>>=◌, Items, ItemPlace, items_told, item_as, count_of, pass_one}
 use Rattle.ply_body.specs.Bodies.{Setting, fan_count, row_count}
 use Rattle.ply_body.specs.declared.frame.Frame.{Frame}
-use Rattle.ply_body.specs.Inputs.{points_of, triangle_at}
-use Rattle.ply_body.specs.Spots.{HoldsRows, IsFrameOf}
+use Rattle.ply_body.specs.Inputs.{triangle_at}
+use Rattle.ply_body.specs.Spots.{spots_of, AreSpots, HoldsRows}
 use Rattle.ply_body.specs.Readings.{Polygon, Cursor, front, coming, with_faces, IsRest}
 
 -- the kind of the count of a list of indices
@@ -236,7 +236,8 @@ IsWorkReason held before now f = ⊥
 
 -- Where the points are told, the triangles of these faces aren't whole.
 pub record AreBroken (frame : Frame) (held : Option Bytes) (faces : List Face) : Type 0 where
-  pub broken : ForSome held (λ bytes. (rows : List Row) → IsFrameOf frame rows → HoldsRows rows bytes → All (λ f. is_whole (triangle_at (points_of rows) f) ≡ false) faces)
+  pub broken : ForSome held (λ bytes. (low : Row) (rows : List Row) → AreSpots frame low rows → HoldsRows rows bytes
+      → All (λ f. is_whole (triangle_at (spots_of low rows) f) ≡ false) faces)
 
 -- A read of a point ends with a fault.
 pub record WorkFails (held : Option Bytes) (before now : ℕ) (f : BodyFault) : Type 0 where

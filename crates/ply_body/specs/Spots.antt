@@ -1,5 +1,5 @@
 -- The points that a reader keeps in a blob, and the frame that tells of them.
-use Rattle.std.specs.Prelude.{◌≡◌, ℕ, ◌*◌, ◌^◌, ◌≤◌, List, [], ◌∷◌, ◌++◌, length, take, flat_map, All, ℤ, ◌≤ℤ◌, unsigned_abs, Option}
+use Rattle.std.specs.Prelude.{◌≡◌, ℕ, ◌*◌, ◌^◌, ◌≤◌, List, [], ◌∷◌, ◌++◌, length, take, map, flat_map, All, ℤ, ◌≤ℤ◌, unsigned_abs, Option}
 use Rattle.std.specs.Option.{ForSome}
 use Rattle.std.specs.Int.{w32, cast_unsigned}
 use Rattle.byteorder.specs.Endian.{little_bytes}
@@ -50,10 +50,6 @@ HoldsRows rows bytes = take (length (rows_bytes rows)) bytes ≡ rows_bytes rows
 abbrev pub Keeps : List Row → Bytes → Option Bytes → Type 0
 Keeps rows way told = (written : List Row) × (later : List Row) × (rows ≡ written ++ later) × (way ≡ rows_bytes later) × ForSome told (HoldsRows written)
 
--- The bytes hold the points of a frame: those of rows of which it is the frame.
-abbrev pub HoldsPoints : Frame → Bytes → Type 0
-HoldsPoints frame bytes = (rows : List Row) × IsFrameOf frame rows × HoldsRows rows bytes
-
 -- coordinates within a cube of level l
 pub record IsInCube (l : ℕ) (p : Point) : Type 0 where
   pub x : p.x ≤ 2 ^ l
@@ -70,6 +66,21 @@ pub record IsOver (low row : Row) : Type 0 where
 pub record IsNear (l : ℕ) (low row : Row) : Type 0 where
   pub over : IsOver low row
   pub near : IsInCube l (less low row)
+
+-- As many rows as a frame has vertices, each a point of its cube, whose least coordinates are those of low.
+pub record AreSpots (frame : Frame) (low : Row) (rows : List Row) : Type 0 where
+  pub least : frame.low ≡ coordinates low
+  pub vertices : frame.vertices ≡ length rows
+  pub small : All IsSmallRow rows
+  pub near : All (IsNear frame.l low) rows
+
+-- the points of rows, relative to the coordinates of low
+abbrev pub spots_of : Row → List Row → List Point
+spots_of low rows = map (less low) rows
+
+-- The bytes begin with those of points of a frame's cube, as many as it has vertices.
+abbrev pub HoldsPoints : Frame → Bytes → Type 0
+HoldsPoints frame bytes = (low : Row) × (rows : List Row) × AreSpots frame low rows × HoldsRows rows bytes
 
 -- the point of a row, relative to the coordinates of low
 pub record IsPointOf (l : ℕ) (low : List ℤ) (row : Row) (p : Point) : Type 0 where

@@ -2,8 +2,8 @@
 ghost use Rattle.std.specs.Prelude.{◌≡◌, ◌≤◌, ◌<◌, List, IfOk, IfErr};
 ghost use Rattle.std.specs.Option.{ForSome};
 ghost use Rattle.tpz_base.specs.Cubes.{Row};
-ghost use Rattle.ply_body.specs.Inputs.{point_at, points_of, triangle_at};
-ghost use Rattle.ply_body.specs.Spots.{HoldsPoints, HoldsRows, IsFrameOf, IsInCube, IsSmallFrame, IsTriInCube};
+ghost use Rattle.ply_body.specs.Inputs.{point_at, triangle_at};
+ghost use Rattle.ply_body.specs.Spots.{spots_of, AreSpots, HoldsPoints, HoldsRows, IsInCube, IsSmallFrame, IsTriInCube};
 ghost use Rattle.ply_body.specs.Places.{face_of, IsNear, IsWorkReason};
 
 use crate::fault::BodyFault;
@@ -23,8 +23,8 @@ fn point_of<B: Blob>(
     requires number { number < frame.now.vertices }
     requires small { IsSmallFrame frame.now }
     requires points { ForSome (B.held points.old) (HoldsPoints frame.now) }
-    ensures point { IfOk result (λ p. ForSome (B.held points.old) (λ bytes. (rows : List Row)
-        → IsFrameOf frame.now rows → HoldsRows rows bytes → p ≡ point_at (points_of rows) number)) }
+    ensures point { IfOk result (λ p. ForSome (B.held points.old) (λ bytes. (low : Row) (rows : List Row)
+        → AreSpots frame.now low rows → HoldsRows rows bytes → p ≡ point_at (spots_of low rows) number)) }
     ensures cube { IfOk result (IsInCube frame.now.l) }
     ensures failed { IfErr result (IsWorkReason (B.held points.old) (B.faults points.old) (B.faults points.new)) }
     ensures held { B.held points.new ≡ B.held points.old }
@@ -47,8 +47,8 @@ pub fn tri_of<B: Blob>(
     requires corners { IsNear frame.now.vertices corners }
     requires small { IsSmallFrame frame.now }
     requires points { ForSome (B.held points.old) (HoldsPoints frame.now) }
-    ensures tri { IfOk result (λ t. ForSome (B.held points.old) (λ bytes. (rows : List Row)
-        → IsFrameOf frame.now rows → HoldsRows rows bytes → t ≡ triangle_at (points_of rows) (face_of corners))) }
+    ensures tri { IfOk result (λ t. ForSome (B.held points.old) (λ bytes. (low : Row) (rows : List Row)
+        → AreSpots frame.now low rows → HoldsRows rows bytes → t ≡ triangle_at (spots_of low rows) (face_of corners))) }
     ensures cube { IfOk result (IsTriInCube frame.now.l) }
     ensures failed { IfErr result (IsWorkReason (B.held points.old) (B.faults points.old) (B.faults points.new)) }
     ensures held { B.held points.new ≡ B.held points.old }

@@ -1,5 +1,5 @@
 // The triangles of an input.
-ghost use Rattle.std.specs.Prelude.{◌≡◌, ◌≢◌, ◌≤◌, ◌⊎◌, ◌+◌, ◌++◌, ℕ, List, All, Ok, Err, Some, None, false, IfOk, IsTrue, IsErrOf};
+ghost use Rattle.std.specs.Prelude.{◌≡◌, ◌≢◌, ◌≤◌, ◌⊎◌, ◌+◌, ◌++◌, ℕ, List, All, is_some, Ok, Err, Some, None, false, IfOk, IsTrue, IsErrOf};
 ghost use Rattle.std.specs.Option.{ForSome, option_map};
 ghost use Rattle.tpz_io.specs.Causes.{Rose};
 ghost use Rattle.tpz_base.specs.declared.shape.Tri.{Tri};
@@ -8,8 +8,8 @@ ghost use Rattle.tpz_base.specs.Meshes.{is_whole};
 ghost use Rattle.tpz_base.specs.Texts.{Face};
 ghost use Rattle.ply_body.specs.declared.fault.BodyFault.{BodyFault};
 ghost use Rattle.ply_body.specs.declared.frame.Frame.{Frame};
-ghost use Rattle.ply_body.specs.Inputs.{is_vertex_element, points_of, triangle_at, vertex_count};
-ghost use Rattle.ply_body.specs.Spots.{HoldsPoints, HoldsRows, IsFrameOf, IsSmallFrame, IsTriInCube};
+ghost use Rattle.ply_body.specs.Inputs.{is_vertex_element, triangle_at, vertex_count};
+ghost use Rattle.ply_body.specs.Spots.{spots_of, AreSpots, HoldsPoints, HoldsRows, IsFrameOf, IsSmallFrame, IsTriInCube};
 ghost use Rattle.ply_body.specs.Readings.{coming_told, input_told, opened, with_spots, GivesFace, GivesNone, IsOpened, IsRefusal};
 
 use crate::fault::BodyFault;
@@ -117,6 +117,7 @@ impl Faces {
         ensures work { IsErrOf result BodyFault.WorkFault → Rose (B.faults points.old) (B.faults points.new) }
         ensures damage { (offset : ℕ) → ¬ (result ≡ Err (BodyFault.WorkDamage offset)) }
         ensures later { (I.faults src.old ≤ I.faults src.new) × (B.faults points.old ≤ B.faults points.new) }
+        ensures telling { is_some (B.held points.new) ≡ is_some (B.held points.old) }
         // Whether source and blob tell their bytes or not:
         ensures small { IfOk result IsSmallFrame }
     {
@@ -154,11 +155,11 @@ impl Faces {
         requires points { ForSome (B.held points.old) (HoldsPoints frame.now) }
         ensures tri { (t : Tri) → result ≡ Ok (Some t) → (lost : List Face) × (face : Face)
             × GivesFace self.old self.new (I.left src.old) (I.left src.new) lost face
-            × ForSome (B.held points.old) (λ bytes. (rows : List Row) → IsFrameOf frame.now rows → HoldsRows rows bytes
-            → All (λ f. is_whole (triangle_at (points_of rows) f) ≡ false) lost × (t ≡ triangle_at (points_of rows) face)) }
+            × ForSome (B.held points.old) (λ bytes. (low : Row) (rows : List Row) → AreSpots frame.now low rows → HoldsRows rows bytes
+            → All (λ f. is_whole (triangle_at (spots_of low rows) f) ≡ false) lost × (t ≡ triangle_at (spots_of low rows) face)) }
         ensures end { result ≡ Ok None → (lost : List Face) × GivesNone self.old self.new (I.left src.old) lost
-            × ForSome (B.held points.old) (λ bytes. (rows : List Row) → IsFrameOf frame.now rows → HoldsRows rows bytes
-            → All (λ f. is_whole (triangle_at (points_of rows) f) ≡ false) lost) }
+            × ForSome (B.held points.old) (λ bytes. (low : Row) (rows : List Row) → AreSpots frame.now low rows → HoldsRows rows bytes
+            → All (λ f. is_whole (triangle_at (spots_of low rows) f) ≡ false) lost) }
         ensures frame { self.new.frame ≡ self.old.frame }
         ensures opened { IfOk result (λ t. self.new.refusal ≡ None) }
         // Each refusal has its cause, and stays.

@@ -1,5 +1,5 @@
 // The rows up to the end of the used vertex element.
-ghost use Rattle.std.specs.Prelude.{◌≡◌, ◌≢◌, ◌≤◌, ◌*◌, [], ℕ, List, All, length, drop, Ok, Err, None, IfOk, OnOk, IsErrOf};
+ghost use Rattle.std.specs.Prelude.{◌≡◌, ◌≢◌, ◌≤◌, ◌*◌, [], ℕ, List, All, length, drop, is_some, Ok, Err, None, IfOk, OnOk, IsErrOf};
 ghost use Rattle.std.specs.Option.{ForSome, option_map};
 ghost use Rattle.tpz_io.specs.Causes.{Rose};
 ghost use Rattle.tpz_base.specs.Cubes.{Row};
@@ -128,6 +128,7 @@ fn read_rows<I: Source, B: Blob>(
     ensures damage { (offset : ℕ) → result ≢ Err (BodyFault.WorkDamage offset) }
     ensures input_later { I.faults src.old ≤ I.faults src.new }
     ensures work_later { B.faults points.old ≤ B.faults points.new }
+    ensures telling { is_some (B.held points.new) ≡ is_some (B.held points.old) }
 {
     let mut hull = None;
     let count = row_count(element);
@@ -167,6 +168,7 @@ fn load_vertex<I: Source, B: Blob>(
     ensures damage { (offset : ℕ) → result ≢ Err (BodyFault.WorkDamage offset) }
     ensures input_later { I.faults src.old ≤ I.faults src.new }
     ensures work_later { B.faults points.old ≤ B.faults points.new }
+    ensures telling { is_some (B.held points.new) ≡ is_some (B.held points.old) }
 {
     let hull = read_rows(items, buffer, element, number, digits, src, points)?;
     let count = row_count(element);
@@ -220,6 +222,7 @@ pub fn load<I: Source, B: Blob>(
     ensures damage { (offset : ℕ) → ¬ (result ≡ Err (BodyFault.WorkDamage offset)) }
     ensures input_later { I.faults src.old ≤ I.faults src.new }
     ensures work_later { B.faults points.old ≤ B.faults points.new }
+    ensures telling { is_some (B.held points.new) ≡ is_some (B.held points.old) }
 {
     let number = vertex_number(elements);
     skip_elements(items, &elements[..number], digits, src)?;

@@ -1,10 +1,10 @@
 // The points of an input in a blob: twelve bytes each, three coordinates in whole scaled units, with the lowest byte first.
-ghost use Rattle.std.specs.Prelude.{◌≡◌, ◌≢◌, ◌≤◌, ◌<◌, ◌+◌, ◌*◌, ◌^◌, ◌++◌, ◌-ℤ◌, ◌≤ℤ◌, ◌<ℤ◌, pos, [], ◌∷◌, ℕ, List, length, take, unsigned_abs, vec_len, None, IfOk, IfSome, OnOk, Err};
+ghost use Rattle.std.specs.Prelude.{◌≡◌, ◌≢◌, ◌≤◌, ◌<◌, ◌+◌, ◌*◌, ◌^◌, ◌++◌, ◌-ℤ◌, ◌≤ℤ◌, ◌<ℤ◌, pos, [], ◌∷◌, ℕ, List, length, take, unsigned_abs, vec_len, is_some, None, IfOk, IfSome, OnOk, Err};
 ghost use Rattle.std.specs.Option.{ForSome};
 ghost use Rattle.tpz_io.specs.Causes.{HasCause, Rose};
 ghost use Rattle.tpz_base.specs.Cubes.{natural_of, Row};
-ghost use Rattle.ply_body.specs.Inputs.{point_at, points_of};
-ghost use Rattle.ply_body.specs.Spots.{coordinates, row_bytes, row_of, HoldsPoints, HoldsRows, IsFrameOf, IsInCube, IsNear, IsPointOf, IsSmallFrame, IsSmallRow, Keeps};
+ghost use Rattle.ply_body.specs.Inputs.{point_at};
+ghost use Rattle.ply_body.specs.Spots.{coordinates, row_bytes, row_of, spots_of, AreSpots, HoldsPoints, HoldsRows, IsInCube, IsNear, IsPointOf, IsSmallFrame, IsSmallRow, Keeps};
 
 use crate::frame::Frame;
 use byteorder::{ByteOrder, LittleEndian};
@@ -125,6 +125,7 @@ impl PointBuffer {
         ensures way { OnOk result (length self.new ≤ 12 * (count + 1)) }
         ensures kept { OnOk result ((rows : List Row) → length rows ≡ count → Keeps rows self.old (B.held points.old)
             → Keeps (rows ++ row_of spot ∷ []) self.new (B.held points.new)) }
+        ensures telling { is_some (B.held points.new) ≡ is_some (B.held points.old) }
         ensures cause { HasCause (B.faults points.old) (B.faults points.new) result }
     {
         self.make_room(points, count)?;
@@ -140,6 +141,7 @@ impl PointBuffer {
         ensures way { OnOk result (length self.new ≤ 12 * count) }
         ensures kept { OnOk result ((rows : List Row) → length rows ≡ count → Keeps rows self.old (B.held points.old)
             → Keeps rows self.new (B.held points.new)) }
+        ensures telling { is_some (B.held points.new) ≡ is_some (B.held points.old) }
         ensures cause { HasCause (B.faults points.old) (B.faults points.new) result }
     {
         if self.bytes.len() + ROW > ROOM {
@@ -163,6 +165,7 @@ impl PointBuffer {
         ensures empty { OnOk result (self.new ≡ []) }
         ensures kept { OnOk result ((rows : List Row) → length rows ≡ count → Keeps rows self.old (B.held points.old)
             → ForSome (B.held points.new) (HoldsRows rows)) }
+        ensures telling { is_some (B.held points.new) ≡ is_some (B.held points.old) }
         ensures cause { HasCause (B.faults points.old) (B.faults points.new) result }
     {
         let start = 12 * count - self.bytes.len() as u64;
@@ -181,8 +184,8 @@ impl PointBuffer {
         requires number { number < frame.now.vertices }
         requires small { IsSmallFrame frame.now }
         requires points { ForSome (B.held points.old) (HoldsPoints frame.now) }
-        ensures point { IfOk result (λ p. ForSome (B.held points.old) (λ bytes. (rows : List Row)
-            → IsFrameOf frame.now rows → HoldsRows rows bytes → p ≡ point_at (points_of rows) number)) }
+        ensures point { IfOk result (λ p. ForSome (B.held points.old) (λ bytes. (low : Row) (rows : List Row)
+            → AreSpots frame.now low rows → HoldsRows rows bytes → p ≡ point_at (spots_of low rows) number)) }
         ensures cube { IfOk result (IsInCube frame.now.l) }
         ensures damage { (offset : ℕ) → result ≡ Err (PointFault.Damage offset) → B.held points.old ≡ None }
         ensures held { B.held points.new ≡ B.held points.old }

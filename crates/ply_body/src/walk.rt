@@ -6,8 +6,8 @@ ghost use Rattle.tpz_base.specs.Cubes.{Row};
 ghost use Rattle.tpz_base.specs.Meshes.{is_whole};
 ghost use Rattle.tpz_base.specs.Texts.{Face};
 ghost use Rattle.ply_head.specs.Heads.{IsSmall};
-ghost use Rattle.ply_body.specs.Inputs.{points_of, triangle_at};
-ghost use Rattle.ply_body.specs.Spots.{HoldsPoints, HoldsRows, IsFrameOf, IsSmallFrame, IsTriInCube};
+ghost use Rattle.ply_body.specs.Inputs.{triangle_at};
+ghost use Rattle.ply_body.specs.Spots.{spots_of, AreSpots, HoldsPoints, HoldsRows, IsSmallFrame, IsTriInCube};
 ghost use Rattle.ply_body.specs.Places.{found_count, tally, AreBroken, IsPlaced, Walks, WalkEnds, WalkFails, WorkFails};
 
 use crate::corners::tri_of;
@@ -51,8 +51,8 @@ impl Walk {
         ensures tri { (t : Tri) → result ≡ Ok (Some t) → (lost : List Face) × (face : Face)
             × Walks self.old.vertices self.old.elements.items self.old.place self.old.items (I.left src.old) self.new.place self.new.items (I.left src.new) (lost ++ face ∷ [])
             × (self.new.dropped ≡ self.old.dropped + length lost)
-            × ForSome (B.held points.old) (λ bytes. (rows : List Row) → IsFrameOf frame.now rows → HoldsRows rows bytes
-            → All (λ f. is_whole (triangle_at (points_of rows) f) ≡ false) lost × (t ≡ triangle_at (points_of rows) face)) }
+            × ForSome (B.held points.old) (λ bytes. (low : Row) (rows : List Row) → AreSpots frame.now low rows → HoldsRows rows bytes
+            → All (λ f. is_whole (triangle_at (spots_of low rows) f) ≡ false) lost × (t ≡ triangle_at (spots_of low rows) face)) }
         ensures end { result ≡ Ok None → (lost : List Face)
             × WalkEnds self.old.vertices self.old.elements.items self.old.place self.old.items (I.left src.old) lost
             × (self.new.dropped ≡ self.old.dropped + length lost)

@@ -1,6 +1,6 @@
 -- The triangles of an input, collected one by one.
 use Rattle.std.proofs.Common.{◌≡◌, ℕ, zero, suc, ◌+◌, ◌≤◌, Bool, true, false, cond, List, [], ◌∷◌, ◌++◌, length, refl, sym, ◌∙◌, ap, ap₂, arith, append_assoc, Ok, Err, inl, inr}
-use Rattle.std.specs.Prelude.{◌⊎◌, not, map, drop, filter, count_by, All, IsTrue, Result, ℤ, pos, unsigned_abs, slice_index_or}
+use Rattle.std.specs.Prelude.{◌⊎◌, is_some, not, map, drop, filter, count_by, All, IsTrue, Result, ℤ, pos, unsigned_abs, slice_index_or}
 use Rattle.std.specs.Option.{option_map, ForSome}
 use Rattle.std.specs.declared.option.Option.{Option}
 use Rattle.std.specs.declared.option.Option.TheVariants.{Some, None}
@@ -24,7 +24,7 @@ use Rattle.ply_body.specs.declared.frame.Frame.{Frame}
 use Rattle.ply_body.specs.Items.{◌>>=◌, MOST_BYTES, items_of}
 use Rattle.ply_body.specs.Bodies.{Input, no_input, elements}
 use Rattle.ply_body.specs.Inputs.{Refusal, InHead, InBody, refused_as, default_input, body as body_of, points_of, triangle_at, whole_of, broken_of, setting_of, mesh_of, dropped_of}
-use Rattle.ply_body.specs.Spots.{coordinates, HoldsRows, IsFrameOf}
+use Rattle.ply_body.specs.Spots.{coordinates, spots_of, AreSpots, HoldsRows}
 use Rattle.ply_body.specs.Readings.{with_faces, with_spots, coming_told, input_told, opened, IsRefusal, Reading}
 use Rattle.puzzle_cli.specs.declared.reading.InputMesh.{InputMesh}
 use Rattle.puzzle_cli.specs.declared.status.Status.{Status}
@@ -77,11 +77,11 @@ AreLost ps fs = All (λ f. is_whole (triangle_at ps f) ≡ false) fs
 
 -- by the points that are held, all of these faces aren't whole; .. and then one is this triangle
 abbrev pub AllLost : Frame → Option Bytes → List Face → Type 0
-AllLost frame held lost = ForSome held (λ bytes. (rows : List Row) → IsFrameOf frame rows → HoldsRows rows bytes → AreLost (points_of rows) lost)
+AllLost frame held lost = ForSome held (λ bytes. (low : Row) (rows : List Row) → AreSpots frame low rows → HoldsRows rows bytes → AreLost (spots_of low rows) lost)
 
 abbrev pub OneGiven : Frame → Option Bytes → List Face → Face → Tri → Type 0
-OneGiven frame held lost face t = ForSome held (λ bytes. (rows : List Row) → IsFrameOf frame rows → HoldsRows rows bytes
-    → AreLost (points_of rows) lost × (t ≡ triangle_at (points_of rows) face))
+OneGiven frame held lost face t = ForSome held (λ bytes. (low : Row) (rows : List Row) → AreSpots frame low rows → HoldsRows rows bytes
+    → AreLost (spots_of low rows) lost × (t ≡ triangle_at (spots_of low rows) face))
 
 whole-append : (ps : List Point) (fs gs : List Face) → whole_of ps (fs ++ gs) ≡ whole_of ps fs ++ whole_of ps gs
 whole-append ps fs gs =
@@ -124,17 +124,17 @@ broken_one : (ps : List Point) (f : Face) (t : Tri) → t ≡ triangle_at ps f �
 broken_one ps f t is whole = none_counted is_whole (triangle_at ps) f (sym (ap is_whole is) ∙ whole)
 
 pub none_whole : (frame : Frame) (held : Option Bytes) (tris : Mesh) (dropped : ℕ) → tris ≡ [] → dropped ≡ 0 → AreWhole frame held [] tris dropped
-none_whole frame held tris dropped no_tris no_dropped = λ bytes told rows is holds. (no_tris, no_dropped)
+none_whole frame held tris dropped no_tris no_dropped = λ bytes told low rows is holds. (no_tris, no_dropped)
 
 -- one triangle more, behind some that aren't whole
 pub one_whole : (frame : Frame) (held : Option Bytes) (faces lost : List Face) (face : Face) (t : Tri) (tris tris' : Mesh) (dropped dropped' : ℕ)
     → AreWhole frame held faces tris dropped → tris' ≡ tris ++ t ∷ [] → dropped' ≡ dropped + length lost → IsTrue (is_whole t)
     → OneGiven frame held lost face t
     → AreWhole frame held (faces ++ (lost ++ face ∷ [])) tris' dropped'
-one_whole frame held faces lost face t tris tris' dropped dropped' are pushed counted whole more = λ bytes told rows is holds.
-    let ps = points_of rows in
-    let old = are bytes told rows is holds in
-    let new = more bytes told rows is holds in (
+one_whole frame held faces lost face t tris tris' dropped dropped' are pushed counted whole more = λ bytes told low rows is holds.
+    let ps = spots_of low rows in
+    let old = are bytes told low rows is holds in
+    let new = more bytes told low rows is holds in (
       pushed ∙ ap₂ (λ (l m : Mesh). l ++ m) old.0 (ap₂ (λ (l m : Mesh). l ++ m) (sym (whole_lost ps lost new.0)) (sym (whole_one ps face t new.1 whole)) ∙ sym (whole-append ps lost (face ∷ [])))
           ∙ sym (whole-append ps faces (lost ++ face ∷ [])),
       omega (arith, counted, old.1, broken-append ps faces (lost ++ face ∷ []), broken-append ps lost (face ∷ []), broken_lost ps lost new.0, broken_one ps face t new.1 whole),
@@ -145,10 +145,10 @@ pub no_more_whole : (frame : Frame) (held : Option Bytes) (faces lost : List Fac
     → AreWhole frame held faces tris dropped → dropped' ≡ dropped + length lost
     → AllLost frame held lost
     → AreWhole frame held (faces ++ lost) tris dropped'
-no_more_whole frame held faces lost tris dropped dropped' are counted more = λ bytes told rows is holds.
-    let ps = points_of rows in
-    let old = are bytes told rows is holds in
-    let new = more bytes told rows is holds in (
+no_more_whole frame held faces lost tris dropped dropped' are counted more = λ bytes told low rows is holds.
+    let ps = spots_of low rows in
+    let old = are bytes told low rows is holds in
+    let new = more bytes told low rows is holds in (
       old.0 ∙ sym (append-nil (whole_of ps faces)) ∙ ap (λ (l : Mesh). whole_of ps faces ++ l) (sym (whole_lost ps lost new)) ∙ sym (whole-append ps faces lost),
       omega (arith, counted, old.1, broken-append ps faces lost, broken_lost ps lost new),
     )
@@ -291,3 +291,12 @@ small_at (z ∷ zs) (suc i) all = small_at zs i (All-tail (λ z. unsigned_abs z 
 
 pub low_small : (zs : List ℤ) → All (λ z. unsigned_abs z ≤ 2147483647) zs → IsLow zs
 low_small zs all = record { x = small_at zs 0 all; y = small_at zs 1 all; z = small_at zs 2 all }
+
+-- what is told before is told later, and what isn't told later wasn't told before
+pub told_later : {X : Type 0} (old new : Option X) (x : X) → is_some new ≡ is_some old → old ≡ Some x → (y : X) × (new ≡ Some y)
+told_later old (Some y) x same is = (y, refl)
+told_later old None x same is = absurd (let no : false ≡ true = same ∙ ap is_some is in cc)
+
+pub untold_before : {X : Type 0} (old new : Option X) → is_some new ≡ is_some old → new ≡ None → old ≡ None
+untold_before None new same is = refl
+untold_before (Some x) new same is = absurd (let no : true ≡ false = sym same ∙ ap is_some is in cc)

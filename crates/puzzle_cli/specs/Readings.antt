@@ -6,16 +6,16 @@ use Rattle.tpz_base.specs.Cubes.{Row}
 use Rattle.tpz_base.specs.Texts.{Bytes, Face}
 use Rattle.ply_body.specs.declared.fault.BodyFault.{BodyFault}
 use Rattle.ply_body.specs.declared.frame.Frame.{Frame}
-use Rattle.ply_body.specs.Inputs.{points_of, whole_of, broken_of}
-use Rattle.ply_body.specs.Spots.{HoldsRows, IsFrameOf}
+use Rattle.ply_body.specs.Inputs.{whole_of, broken_of}
+use Rattle.ply_body.specs.Spots.{spots_of, AreSpots, HoldsRows}
 use Rattle.ply_body.specs.Readings.{Reading, coming_told}
 use Rattle.puzzle_cli.specs.declared.status.Status.{Status}
 use Rattle.puzzle_cli.specs.Statuses.{body_status}
 
 -- The whole triangles among those of some faces, by the points that are held, and how many aren't whole.
 abbrev pub AreWhole : Frame → Option Bytes → List Face → Mesh → ℕ → Type 0
-AreWhole frame held faces tris dropped = ForSome held (λ bytes. (rows : List Row) → IsFrameOf frame rows → HoldsRows rows bytes
-    → (tris ≡ whole_of (points_of rows) faces) × (dropped ≡ broken_of (points_of rows) faces))
+AreWhole frame held faces tris dropped = ForSome held (λ bytes. (low : Row) (rows : List Row) → AreSpots frame low rows → HoldsRows rows bytes
+    → (tris ≡ whole_of (spots_of low rows) faces) × (dropped ≡ broken_of (spots_of low rows) faces))
 
 -- These are the whole triangles among those that were to come, and no other is to come.
 pub record TrisTold (old new : Reading) (told : Option Bytes) (held : Option Bytes) (frame : Frame) (tris : Mesh) : Type 0 where

@@ -54,19 +54,19 @@ pub fn finest<I: Source, W: Blob, O: Out>(
     out: &mut O,
 ) -> Status
     ensures asked { ¬ (result ≡ Status.Usage) }
-    ensures ok { result ≡ Status.Ok → ForSome (I.left input.old) (λ bytes. ForSome (W.held work.new) (λ _. (rows : List Row) (faces : List Face)
+    ensures ok { result ≡ Status.Ok → ForSome (I.left input.old) (λ bytes. ForSome (W.held work.old) (λ _. (rows : List Row) (faces : List Face)
         → default_input bytes ≡ Ok (record { rows = rows; faces = faces })
         → Wrote (finest_items (digits_of bytes) rows faces) (O.parts out.old) (O.parts out.new) (O.notes out.old) (O.notes out.new))) }
     ensures refused { IsRefused result → ForSome (I.left input.old) (λ bytes. (r : Refusal) × (default_input bytes ≡ Err r) × (result ≡ status_of r)) }
     ensures accepted { (result ≡ Status.Ok) ⊎ (result ≡ Status.OutFault) → ForSome (I.left input.old) IsAccepted }
     ensures input_fault { result ≡ Status.InputFault → Rose (I.faults input.old) (I.faults input.new) }
     ensures work_fault { result ≡ Status.WorkFault → Rose (W.faults work.old) (W.faults work.new) }
-    ensures work_damage { (offset : ℕ) → result ≡ Status.WorkDamage offset → W.held work.new ≡ None }
+    ensures work_damage { (offset : ℕ) → result ≡ Status.WorkDamage offset → W.held work.old ≡ None }
     ensures out_fault { result ≡ Status.OutFault → Rose (O.faults out.old) (O.faults out.new) }
     ensures input_later { I.faults input.old ≤ I.faults input.new }
     ensures work_later { W.faults work.old ≤ W.faults work.new }
     ensures out_later { O.faults out.old ≤ O.faults out.new }
-    ensures front { ForSome (I.left input.old) (λ bytes. ForSome (W.held work.new) (λ _. (rows : List Row) (faces : List Face)
+    ensures front { ForSome (I.left input.old) (λ bytes. ForSome (W.held work.old) (λ _. (rows : List Row) (faces : List Face)
         → default_input bytes ≡ Ok (record { rows = rows; faces = faces })
         → WrotePrefix (finest_items (digits_of bytes) rows faces) (O.parts out.old) (O.parts out.new) (O.notes out.old) (O.notes out.new))) }
     ensures unaccepted { ForSome (I.left input.old) (λ bytes. ¬ IsAccepted bytes

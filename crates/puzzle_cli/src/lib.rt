@@ -50,7 +50,7 @@ pub fn run<I: Source, C: Source, W: Blob, S: Blob, O: Out>(
 
     // Ok: the part and the note are those of the rows and faces that the input means, and the mesh of the part holds the
     // triangles of the input, each once.
-    ensures ok { result ≡ Status.Ok → ForSome (I.left input.old) (λ bytes. ForSome (W.held work.new) (λ _. (rows : List Row) (faces : List Face)
+    ensures ok { result ≡ Status.Ok → ForSome (I.left input.old) (λ bytes. ForSome (W.held work.old) (λ _. (rows : List Row) (faces : List Face)
         → default_input bytes ≡ Ok (record { rows = rows; faces = faces })
         → Wrote (finest_items (digits_of bytes) rows faces) (O.parts out.old) (O.parts out.new) (O.notes out.old) (O.notes out.new))) }
     ensures once { (rows : List Row) (faces : List Face) → SameTriangles (finest_mesh rows faces) (mesh_of rows faces) }
@@ -60,16 +60,16 @@ pub fn run<I: Source, C: Source, W: Blob, S: Blob, O: Out>(
     ensures accepted { (result ≡ Status.Ok) ⊎ (result ≡ Status.OutFault) → ForSome (I.left input.old) IsAccepted }
     ensures input_fault { result ≡ Status.InputFault → Rose (I.faults input.old) (I.faults input.new) }
     ensures work_fault { result ≡ Status.WorkFault → Rose (W.faults work.old) (W.faults work.new) }
-    ensures work_damage { (offset : ℕ) → result ≡ Status.WorkDamage offset → W.held work.new ≡ None }
+    ensures work_damage { (offset : ℕ) → result ≡ Status.WorkDamage offset → W.held work.old ≡ None }
     ensures out_fault { result ≡ Status.OutFault → Rose (O.faults out.old) (O.faults out.new) }
     ensures later { (I.faults input.old ≤ I.faults input.new) × (W.faults work.old ≤ W.faults work.new) × (O.faults out.old ≤ O.faults out.new) }
-    ensures complete { AsksFinest words.now → ForSome (I.left input.old) (λ bytes. ForSome (W.held work.new) (λ _.
+    ensures complete { AsksFinest words.now → ForSome (I.left input.old) (λ bytes. ForSome (W.held work.old) (λ _.
         ¬ Rose (I.faults input.old) (I.faults input.new) → ¬ Rose (W.faults work.old) (W.faults work.new) → ¬ Rose (O.faults out.old) (O.faults out.new)
         → (IsAccepted bytes → (result ≡ Status.Ok) ⊎ (result ≡ Status.Memory))
         × ((r : Refusal) → default_input bytes ≡ Err r → (result ≡ status_of r) ⊎ (result ≡ Status.Memory)))) }
 
     // Whatever the answer, what is written is a front of what the command writes.
-    ensures front { ForSome (I.left input.old) (λ bytes. ForSome (W.held work.new) (λ _. (rows : List Row) (faces : List Face)
+    ensures front { ForSome (I.left input.old) (λ bytes. ForSome (W.held work.old) (λ _. (rows : List Row) (faces : List Face)
         → default_input bytes ≡ Ok (record { rows = rows; faces = faces })
         → WrotePrefix (finest_items (digits_of bytes) rows faces) (O.parts out.old) (O.parts out.new) (O.notes out.old) (O.notes out.new))) }
     ensures unaccepted { ForSome (I.left input.old) (λ bytes. ¬ IsAccepted bytes

@@ -52,7 +52,7 @@ fn read_tris<I: Source, W: Blob>(
     ensures unread { (status : Status) → result ≡ Err status → IsUnread status }
     ensures input { (status : Status) → result ≡ Err status → status ≡ Status.InputFault → Rose (I.faults input.old) (I.faults input.new) }
     ensures work { (status : Status) → result ≡ Err status → status ≡ Status.WorkFault → Rose (W.faults work.old) (W.faults work.new) }
-    ensures damage { (status : Status) → result ≡ Err status → (offset : ℕ) → status ≡ Status.WorkDamage offset → W.held work.new ≡ None }
+    ensures damage { (status : Status) → result ≡ Err status → (offset : ℕ) → status ≡ Status.WorkDamage offset → W.held work.old ≡ None }
     ensures input_later { I.faults input.old ≤ I.faults input.new }
     ensures work_later { W.faults work.old ≤ W.faults work.new }
     ensures held { W.held work.new ≡ W.held work.old }
@@ -76,7 +76,7 @@ pub fn read_mesh<I: Source, W: Blob>(
     input: &mut I,
     work: &mut W,
 ) -> Result<InputMesh, Status>
-    ensures mesh { IfOk result (λ mesh. ForSome (I.left input.old) (λ bytes. ForSome (W.held work.new) (λ _. (rows : List Row) (faces : List Face)
+    ensures mesh { IfOk result (λ mesh. ForSome (I.left input.old) (λ bytes. ForSome (W.held work.old) (λ _. (rows : List Row) (faces : List Face)
         → default_input bytes ≡ Ok (record { rows = rows; faces = faces }) → IsMeshOf mesh (digits_of bytes) rows faces))) }
     ensures accepted { IsOk result → ForSome (I.left input.old) IsAccepted }
     ensures low { IfOk result (λ mesh. IsLow mesh.low) }
@@ -85,7 +85,7 @@ pub fn read_mesh<I: Source, W: Blob>(
     ensures unread { (status : Status) → result ≡ Err status → IsUnread status }
     ensures input { (status : Status) → result ≡ Err status → status ≡ Status.InputFault → Rose (I.faults input.old) (I.faults input.new) }
     ensures work { (status : Status) → result ≡ Err status → status ≡ Status.WorkFault → Rose (W.faults work.old) (W.faults work.new) }
-    ensures damage { (status : Status) → result ≡ Err status → (offset : ℕ) → status ≡ Status.WorkDamage offset → W.held work.new ≡ None }
+    ensures damage { (status : Status) → result ≡ Err status → (offset : ℕ) → status ≡ Status.WorkDamage offset → W.held work.old ≡ None }
     ensures input_later { I.faults input.old ≤ I.faults input.new }
     ensures work_later { W.faults work.old ≤ W.faults work.new }
 {

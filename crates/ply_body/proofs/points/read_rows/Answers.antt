@@ -16,6 +16,7 @@ rows-init g c =
       way = omega (arith, empty);
       input_later = omega arith;
       work_later = omega arith;
+      telling = refl;
     }
 
 pub rows-preserved : goal.rows-preserved
@@ -38,6 +39,7 @@ rows-preserved g c =
       way = way;
       input_later = omega (arith, c.rows.invariant.input_later, c.in_ok-spot.ensures.later);
       work_later = omega (arith, c.rows.invariant.work_later, c.add.ensures.cause.later);
+      telling = c.add.ensures.telling ∙ c.rows.invariant.telling;
     }
 
 pub returns-in_err-spot-clause-refused : goal.returns-in_err-spot-clause-refused

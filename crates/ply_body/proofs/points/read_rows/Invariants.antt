@@ -1,4 +1,5 @@
 use Rattle.std.proofs.Common.{◌≡◌, ◌≤◌, ◌*◌, List, length}
+use Rattle.std.specs.Prelude.{is_some}
 use Rattle.tpz_base.specs.Cubes.{Row}
 use Rattle.ply_body.specs.Items.{items_told}
 use Rattle.ply_body.specs.VertexRows.{AreRead, TakesSoFar}
@@ -11,4 +12,5 @@ invariant-rows g l = record {
   way : length l.buffer ≤ 12 * l.row;
   input_later : g.I.Source.faults l.initial.src ≤ g.I.Source.faults l.src;
   work_later : g.B.Blob.faults l.initial.points ≤ g.B.Blob.faults l.points;
+  telling : is_some (g.B.Blob.held l.points) ≡ is_some (g.B.Blob.held l.initial.points);
 }

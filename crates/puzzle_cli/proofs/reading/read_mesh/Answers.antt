@@ -1,8 +1,10 @@
 use Rattle.std.proofs.Common.{refl, sym, ◌∙◌, ap, subst, Err}
+use Rattle.tpz_base.specs.Cubes.{low_of}
 use Rattle.ply_body.specs.Inputs.{InHead, InBody}
+use Rattle.ply_body.proofs.CubeRows.{frame_spots}
 use Rattle.puzzle_cli.specs.Statuses.{IsRefused}
 use Rattle.puzzle_cli.specs.Finest.{digits_by}
-use Rattle.puzzle_cli.proofs.ReadLemmas.{head_told, same_status, refusal_of_head, refusal_of_body, damage_of_body, default_by, spots_read, mesh_read, refused_by, low_small}
+use Rattle.puzzle_cli.proofs.ReadLemmas.{head_told, same_status, refusal_of_head, refusal_of_body, damage_of_body, default_by, spots_read, mesh_read, refused_by, low_small, told_later, untold_before}
 use Rattle.puzzle_cli.proofs.reading.read_mesh.Goals as goal
 
 pub returns-in-Err-clause-refused : goal.returns-in-Err-clause-refused
@@ -28,6 +30,11 @@ returns-in-Err-load_points-clause-damage g c = λ status is offset damaged.
     let same = same_status _ status _ is c.status_of_body.ensures in
     absurd (c.in-Err-load_points.ensures.damage offset (ap Err (damage_of_body c.in-Err-load_points.fault offset (sym same ∙ damaged))))
 
+pub read_tris-requires-points : goal.read_tris-requires-points
+read_tris-requires-points g c = λ bytes told.
+    let read = c.in-Ok-load_points.ensures.rows in
+    (low_of read.0, read.0, frame_spots c.in-Ok-load_points.frame read.0 read.1, read.3 bytes told)
+
 pub returns-in-Err-read_tris-clause-refused : goal.returns-in-Err-read_tris-clause-refused
 returns-in-Err-read_tris-clause-refused g c = λ status is refused bytes told.
     let read = c.in-Ok-load_points.ensures.rows in
@@ -38,7 +45,8 @@ returns-in-Err-read_tris-clause-refused g c = λ status is refused bytes told.
 
 pub returns-in-Err-read_tris-clause-damage : goal.returns-in-Err-read_tris-clause-damage
 returns-in-Err-read_tris-clause-damage g c = λ status is offset damaged.
-    c.in-Err-read_tris.ensures.damage c.in-Err-read_tris.status refl offset (sym (same_status _ status _ is refl) ∙ damaged)
+    untold_before _ _ c.load_points.ensures.telling
+    (c.in-Err-read_tris.ensures.damage c.in-Err-read_tris.status refl offset (sym (same_status _ status _ is refl) ∙ damaged))
 
 pub returns-clause-mesh : goal.returns-clause-mesh
 returns-clause-mesh g c = λ bytes told held keeps rows faces means.
@@ -46,7 +54,8 @@ returns-clause-mesh g c = λ bytes told held keeps rows faces means.
     let tris = c.in-Ok-read_tris.ensures.tris in
     let is = default_by c.in-Ok.head _ _ _ _ bytes _ c.in-Ok.ensures.read c.default_digits-digits.ensures c.in_ok-faces.ensures told
     (spots_read _ _ read.0 tris.faces read.2 tris.all) in
-    let whole = tris.whole held keeps read.0 read.1 (read.3 held (sym c.read_tris.ensures.held ∙ keeps)) in
+    let (later, kept) = told_later _ _ held c.load_points.ensures.telling keeps in
+    let whole = tris.whole later (c.read_tris.ensures.held ∙ kept) (low_of read.0) read.0 (frame_spots c.in-Ok-load_points.frame read.0 read.1) (read.3 later kept) in
     mesh_read _ _ bytes rows faces is means (c.default_digits-digits.ensures ∙ sym (ap digits_by (c.in-Ok.ensures.read.1.heading bytes told)))
     read.1.low whole.0 (c.dropped.ensures ∙ whole.1)
 

@@ -4,14 +4,15 @@ use Rattle.std.proofs.lemmas.List.Elements.{All-nil, All-push}
 use Rattle.std.proofs.lemmas.Result.{err_from_is_err_and}
 use Rattle.tpz_base.specs.Texts.{Face}
 use Rattle.tpz_base.specs.Meshes.{is_whole}
-use Rattle.ply_body.specs.Inputs.{points_of, triangle_at}
+use Rattle.ply_body.specs.Inputs.{triangle_at}
+use Rattle.ply_body.specs.Spots.{spots_of}
 use Rattle.ply_body.specs.Places.{face_of}
 use Rattle.ply_body.proofs.Walking.{both_walks, later_work, stay, then_walk_fails, walk_ends}
 use Rattle.ply_body.proofs.walk.Walk.next_whole.Goals as goal
 
 pub dropped-init : goal.dropped-init
 dropped-init g c = record {
-  lost = ([], stay _ _ _ _ _, omega arith, record { broken = λ bytes told rows frame holds. All-nil (λ (f : Face). is_whole (triangle_at (points_of rows) f) ≡ false) });
+  lost = ([], stay _ _ _ _ _, omega arith, record { broken = λ bytes told low rows frame holds. All-nil (λ (f : Face). is_whole (triangle_at (spots_of low rows) f) ≡ false) });
   elements = refl;
   vertices = refl;
   placed = c.requires.placed;
@@ -49,7 +50,7 @@ returns-then-whole-clause-tri g c = λ t is.
       face_of c.in-Some.corners,
       both_walks it.lost.1 walks,
       it.lost.2,
-      λ bytes told rows frame holds. (it.lost.3.broken bytes told rows frame holds, sym same ∙ c.in_ok-tri.ensures.tri bytes (it.held ∙ told) rows frame holds),
+      λ bytes told low rows frame holds. (it.lost.3.broken bytes told low rows frame holds, sym same ∙ c.in_ok-tri.ensures.tri bytes (it.held ∙ told) low rows frame holds),
     )
 
 pub dropped-preserved : goal.dropped-preserved
@@ -66,8 +67,8 @@ dropped-preserved g c =
         both_walks it.lost.1 walks,
         omega (arith, it.lost.2, length_push it.lost.0 face),
         record {
-          broken = λ bytes told rows frame holds. All-push (λ (f : Face). is_whole (triangle_at (points_of rows) f) ≡ false) it.lost.0 face
-              (it.lost.3.broken bytes told rows frame holds) (ap is_whole (sym (c.in_ok-tri.ensures.tri bytes (it.held ∙ told) rows frame holds)) ∙ broken);
+          broken = λ bytes told low rows frame holds. All-push (λ (f : Face). is_whole (triangle_at (spots_of low rows) f) ≡ false) it.lost.0 face
+              (it.lost.3.broken bytes told low rows frame holds) (ap is_whole (sym (c.in_ok-tri.ensures.tri bytes (it.held ∙ told) low rows frame holds)) ∙ broken);
         },
       );
       elements = it.elements;
