@@ -30,8 +30,8 @@ returns-in-Err-load_points-clause-damage g c = λ status is offset damaged.
     let same = same_status _ status _ is c.status_of_body.ensures in
     absurd (c.in-Err-load_points.ensures.damage offset (ap Err (damage_of_body c.in-Err-load_points.fault offset (sym same ∙ damaged))))
 
-pub read_tris-requires-points : goal.read_tris-requires-points
-read_tris-requires-points g c = λ bytes told.
+pub read_tris-requires-clause-points : goal.read_tris-requires-clause-points
+read_tris-requires-clause-points g c = λ bytes told.
     let read = c.in-Ok-load_points.ensures.rows in
     (low_of read.0, read.0, frame_spots c.in-Ok-load_points.frame read.0 read.1, read.3 bytes told)
 
