@@ -4,8 +4,7 @@ use Rattle.std.specs.Option.{ForSome}
 use Rattle.std.specs.Int.{w32, cast_unsigned}
 use Rattle.byteorder.specs.Endian.{little_bytes}
 use Rattle.tpz_base.specs.declared.shape.Point.{Point}
-use Rattle.tpz_base.specs.declared.shape.Tri.{Tri}
-use Rattle.tpz_base.specs.Cubes.{Row, less, low_of, level_bound, widest}
+use Rattle.tpz_base.specs.Cubes.{Row, less, low_of, level_bound, widest, IsInCube}
 use Rattle.tpz_base.specs.Texts.{Bytes}
 use Rattle.ply_body.specs.declared.frame.Frame.{Frame}
 use Rattle.ply_body.specs.declared.spots.Spot.{Spot}
@@ -50,12 +49,6 @@ HoldsRows rows bytes = take (length (rows_bytes rows)) bytes ≡ rows_bytes rows
 abbrev pub Keeps : List Row → Bytes → Option Bytes → Type 0
 Keeps rows way told = (written : List Row) × (later : List Row) × (rows ≡ written ++ later) × (way ≡ rows_bytes later) × ForSome told (HoldsRows written)
 
--- coordinates within a cube of level l
-pub record IsInCube (l : ℕ) (p : Point) : Type 0 where
-  pub x : p.x ≤ 2 ^ l
-  pub y : p.y ≤ 2 ^ l
-  pub z : p.z ≤ 2 ^ l
-
 -- the row has no coordinate below those of low
 pub record IsOver (low row : Row) : Type 0 where
   pub x : low.x ≤ℤ row.x
@@ -86,11 +79,6 @@ HoldsPoints frame bytes = (low : Row) × (rows : List Row) × AreSpots frame low
 pub record IsPointOf (l : ℕ) (low : List ℤ) (row : Row) (p : Point) : Type 0 where
   pub point : (corner : Row) → low ≡ coordinates corner → p ≡ less corner row
   pub cube : IsInCube l p
-
-pub record IsTriInCube (l : ℕ) (t : Tri) : Type 0 where
-  pub a : IsInCube l t.a
-  pub b : IsInCube l t.b
-  pub c : IsInCube l t.c
 
 -- the bounds of a frame, whatever was read
 pub record IsSmallFrame (frame : Frame) : Type 0 where

@@ -1,9 +1,9 @@
 // The triangle of three corners, whose points are in the blob.
 ghost use Rattle.std.specs.Prelude.{◌≡◌, ◌≤◌, ◌<◌, List, IfOk, IfErr};
 ghost use Rattle.std.specs.Option.{ForSome};
-ghost use Rattle.tpz_base.specs.Cubes.{Row};
+ghost use Rattle.tpz_base.specs.Cubes.{Row, IsInCube, IsTriInCube};
 ghost use Rattle.ply_body.specs.Inputs.{point_at, triangle_at};
-ghost use Rattle.ply_body.specs.Spots.{spots_of, AreSpots, HoldsPoints, HoldsRows, IsInCube, IsSmallFrame, IsTriInCube};
+ghost use Rattle.ply_body.specs.Spots.{spots_of, AreSpots, HoldsPoints, HoldsRows, IsSmallFrame};
 ghost use Rattle.ply_body.specs.Places.{face_of, IsNear, IsWorkReason};
 
 use crate::fault::BodyFault;

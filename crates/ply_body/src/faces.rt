@@ -3,13 +3,13 @@ ghost use Rattle.std.specs.Prelude.{◌≡◌, ◌≢◌, ◌≤◌, ◌⊎◌, 
 ghost use Rattle.std.specs.Option.{ForSome, option_map};
 ghost use Rattle.tpz_io.specs.Causes.{Rose};
 ghost use Rattle.tpz_base.specs.declared.shape.Tri.{Tri};
-ghost use Rattle.tpz_base.specs.Cubes.{Row};
+ghost use Rattle.tpz_base.specs.Cubes.{Row, IsTriInCube};
 ghost use Rattle.tpz_base.specs.Meshes.{is_whole};
 ghost use Rattle.tpz_base.specs.Texts.{Face};
 ghost use Rattle.ply_body.specs.declared.fault.BodyFault.{BodyFault};
 ghost use Rattle.ply_body.specs.declared.frame.Frame.{Frame};
 ghost use Rattle.ply_body.specs.Inputs.{is_vertex_element, triangle_at, vertex_count};
-ghost use Rattle.ply_body.specs.Spots.{spots_of, AreSpots, HoldsPoints, HoldsRows, IsFrameOf, IsSmallFrame, IsTriInCube};
+ghost use Rattle.ply_body.specs.Spots.{spots_of, AreSpots, HoldsPoints, HoldsRows, IsFrameOf, IsSmallFrame};
 ghost use Rattle.ply_body.specs.Readings.{coming_told, input_told, opened, with_spots, GivesFace, GivesNone, IsOpened, IsRefusal};
 
 use crate::fault::BodyFault;

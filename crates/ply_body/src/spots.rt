@@ -2,9 +2,9 @@
 ghost use Rattle.std.specs.Prelude.{◌≡◌, ◌≢◌, ◌≤◌, ◌<◌, ◌+◌, ◌*◌, ◌^◌, ◌++◌, ◌-ℤ◌, ◌≤ℤ◌, ◌<ℤ◌, pos, [], ◌∷◌, ℕ, List, length, take, unsigned_abs, vec_len, is_some, None, IfOk, IfSome, OnOk, Err};
 ghost use Rattle.std.specs.Option.{ForSome};
 ghost use Rattle.tpz_io.specs.Causes.{HasCause, Rose};
-ghost use Rattle.tpz_base.specs.Cubes.{natural_of, Row};
+ghost use Rattle.tpz_base.specs.Cubes.{natural_of, Row, IsInCube};
 ghost use Rattle.ply_body.specs.Inputs.{point_at};
-ghost use Rattle.ply_body.specs.Spots.{coordinates, row_bytes, row_of, spots_of, AreSpots, HoldsPoints, HoldsRows, IsInCube, IsNear, IsPointOf, IsSmallFrame, IsSmallRow, Keeps};
+ghost use Rattle.ply_body.specs.Spots.{coordinates, row_bytes, row_of, spots_of, AreSpots, HoldsPoints, HoldsRows, IsNear, IsPointOf, IsSmallFrame, IsSmallRow, Keeps};
 
 use crate::frame::Frame;
 use byteorder::{ByteOrder, LittleEndian};

@@ -2,12 +2,12 @@
 ghost use Rattle.std.specs.Prelude.{◌≡◌, ◌⊎◌, ◌≤◌, ◌+◌, ◌∷◌, ◌++◌, [], ℕ, List, All, length, Err, Ok, None, Some, false, IfOk, IfErr, IfSome, IsTrue};
 ghost use Rattle.std.specs.Option.{ForSome};
 ghost use Rattle.tpz_base.specs.declared.shape.Tri.{Tri};
-ghost use Rattle.tpz_base.specs.Cubes.{Row};
+ghost use Rattle.tpz_base.specs.Cubes.{Row, IsTriInCube};
 ghost use Rattle.tpz_base.specs.Meshes.{is_whole};
 ghost use Rattle.tpz_base.specs.Texts.{Face};
 ghost use Rattle.ply_head.specs.Heads.{IsSmall};
 ghost use Rattle.ply_body.specs.Inputs.{triangle_at};
-ghost use Rattle.ply_body.specs.Spots.{spots_of, AreSpots, HoldsPoints, HoldsRows, IsSmallFrame, IsTriInCube};
+ghost use Rattle.ply_body.specs.Spots.{spots_of, AreSpots, HoldsPoints, HoldsRows, IsSmallFrame};
 ghost use Rattle.ply_body.specs.Places.{found_count, tally, AreBroken, IsPlaced, Walks, WalkEnds, WalkFails, WorkFails};
 
 use crate::corners::tri_of;
