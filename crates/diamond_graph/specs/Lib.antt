@@ -1,0 +1,3 @@
+pub mod Closed
+pub mod Adding
+pub mod Graphs
