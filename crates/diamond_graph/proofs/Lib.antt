@@ -1,0 +1,4 @@
+pub mod ClosureLaw
+pub mod SetLaw
+pub mod CentreFacts
+pub mod AddingLaw

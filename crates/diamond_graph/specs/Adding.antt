@@ -4,7 +4,7 @@ use Rattle.tpz_base.specs.declared.shape.Point.{Point}
 use Rattle.tpz_base.specs.Cuts.{has_diamond}
 use Rattle.tpz_base.specs.Diamonds.{ancestry}
 use Rattle.tetra_name.specs.Names.{IsBound}
-use Rattle.diamond_graph.specs.Closed.{IsConforming, IsPartOf, IsSplit}
+use Rattle.diamond_graph.specs.Closed.{IsConforming, IsPartOf, CanSplit}
 
 -- a level bound, and a set
 pub record ClosingState : Type 0 where
@@ -25,5 +25,5 @@ pub record GrowsTowards (L : ℕ) (d : Point) (old new : List Point) : Type 0 wh
 pub record IsKept (L : ℕ) (keys : List Point) : Type 0 where
   pub bound : IsBound L
   pub conforming : IsConforming L keys
-  pub split : All (IsSplit L) keys
+  pub can_split : All (CanSplit L) keys
   pub few : length keys ≤ most_centres

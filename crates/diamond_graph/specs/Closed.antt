@@ -31,11 +31,11 @@ pub record IsLeastClosed (L : ℕ) (W F : List Point) : Type 0 where
   pub least : (G : List Point) → IsConforming L G → IsPartOf W G → IsPartOf F G
 
 -- some tetrahedron above the last level has this diamond
-abbrev pub IsSplit : ℕ → Point → Type 0
-IsSplit L d = IsCentre L d × (level_of L d < 3 * L)
+abbrev pub CanSplit : ℕ → Point → Type 0
+CanSplit L d = IsCentre L d × (level_of L d < 3 * L)
 
 -- a conforming set of such diamonds, in record order, each once
 pub record IsClosedSet (L : ℕ) (F : List Point) : Type 0 where
   pub order : in_order (record_lt L) F ≡ F
   pub conforming : IsConforming L F
-  pub split : All (IsSplit L) F
+  pub can_split : All (CanSplit L) F

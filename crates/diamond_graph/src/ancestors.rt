@@ -1,10 +1,12 @@
 // A diamond is added to a set with its ancestors, parents first.
-ghost use Rattle.std.specs.Prelude.{◌≡◌, ◌<◌, ◌≤◌, ◌*◌, ◌∷◌, ◌||◌, length, OnOk};
+ghost use Rattle.std.specs.Prelude.{◌≡◌, ◌<◌, ◌≤◌, ◌*◌, [], ◌∷◌, ◌++◌, ◌||◌, false, length, OnOk, OnErr};
+ghost use Rattle.std.specs.List.{IsDistinct};
+ghost use Rattle.tpz_base.specs.Points.{point_eq};
 ghost use Rattle.tpz_base.specs.declared.shape.Point.{Point};
 ghost use Rattle.tpz_base.specs.Cuts.{has_diamond};
 ghost use Rattle.tpz_base.specs.Diamonds.{ancestry};
-ghost use Rattle.tetra_name.specs.Names.{point_of, IsBound, IsCentre};
-ghost use Rattle.diamond_graph.specs.Closed.{closure, IsConforming};
+ghost use Rattle.tetra_name.specs.Names.{point_of, IsBound};
+ghost use Rattle.diamond_graph.specs.Closed.{closure, CanSplit, IsConforming};
 ghost use Rattle.diamond_graph.specs.Adding.{most_centres, GrowsTowards};
 
 use crate::record::key;
@@ -26,6 +28,12 @@ const MOST: usize = 67_108_864;
 
 /// Adds a centre that isn't there, whose parents are.
 fn add_alone(centres: &mut IndexSet<Point>, p: Point) -> Result<(), ClosingFault>
+    requires { has_diamond centres.old.keys p ≡ false }
+    ensures ok { OnOk result (centres.new.keys ≡ centres.old.keys ++ p ∷ []) }
+    ensures room { OnOk result (length centres.old.keys < most_centres) }
+    ensures err { OnErr result (centres.new.keys ≡ centres.old.keys) }
+    ensures full { result ≡ Err ClosingFault.TooManyRecords → most_centres ≤ length centres.old.keys }
+    ensures differ { result ≡ Err ClosingFault.TooManyRecords → IsDistinct point_eq centres.old.keys }
 {
     if centres.len() >= MOST {
         return Err(ClosingFault::TooManyRecords);
@@ -40,7 +48,7 @@ fn add_alone(centres: &mut IndexSet<Point>, p: Point) -> Result<(), ClosingFault
 /// nothing is looked for above a centre that is there.
 pub(crate) fn add_with_ancestors(centres: &mut IndexSet<Point>, c: Half, l: u8) -> Result<(), ClosingFault>
     requires bound { IsBound l }
-    requires centre { IsCentre l (point_of c) }
+    requires centre { CanSplit l (point_of c) }
     requires conforming { IsConforming l centres.old.keys }
     requires few { length centres.old.keys ≤ most_centres }
     ensures ok { OnOk result ((x : Point) → has_diamond centres.new.keys x ≡ has_diamond centres.old.keys x || has_diamond (ancestry l (point_of c)) x) }
