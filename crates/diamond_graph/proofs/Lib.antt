@@ -2,3 +2,4 @@ pub mod ClosureLaw
 pub mod SetLaw
 pub mod CentreFacts
 pub mod AddingLaw
+pub mod ClosingLaw
