@@ -3,3 +3,4 @@ pub mod SetLaw
 pub mod CentreFacts
 pub mod AddingLaw
 pub mod ClosingLaw
+pub mod RankLaw

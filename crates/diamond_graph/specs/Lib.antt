@@ -1,3 +1,4 @@
 pub mod Closed
 pub mod Adding
 pub mod Graphs
+pub mod Ranks

@@ -1,8 +1,11 @@
 // Centres with their levels, which order them as records are ordered.
-ghost use Rattle.std.specs.Prelude.{◌≡◌, All, IfOk, IsPermutation, map};
+ghost use Rattle.std.specs.Prelude.{◌≡◌, All, IfOk, map};
+ghost use Rattle.std.specs.List.{IsDistinct};
+ghost use Rattle.tpz_base.specs.Points.{point_eq};
 ghost use Rattle.tpz_base.specs.Lists.{in_order};
-ghost use Rattle.tpz_base.specs.Diamonds.{level_of, record_lt};
-ghost use Rattle.tetra_name.specs.Names.{point_of, IsBound, IsCentre};
+ghost use Rattle.tpz_base.specs.Diamonds.{record_lt};
+ghost use Rattle.tetra_name.specs.Names.{IsBound, IsCentre};
+ghost use Rattle.diamond_graph.specs.Ranks.{rank_of, ranked_point};
 
 use crate::record::centre;
 use std::alloc::{AllocError, Global};
@@ -20,9 +23,10 @@ pub(crate) struct Ranked {
 fn rank(alloc: Global, points: &[Point], l: u8) -> Result<Vec<Ranked>, AllocError>
     requires bound { IsBound l }
     requires centres { All (IsCentre l) points.now }
+    ensures { IfOk result (λ ranked. ranked.items ≡ map (rank_of l) points.now) }
 {
     let mut ranked = Vec::with_capacity(alloc, points.len())?;
-    for p in points {
+    'points: for p in points {
         let centre = centre(*p);
         ranked.push(Ranked {
             level: level(centre, l),
@@ -36,7 +40,8 @@ fn rank(alloc: Global, points: &[Point], l: u8) -> Result<Vec<Ranked>, AllocErro
 pub(crate) fn in_record_order(alloc: Global, points: &[Point], l: u8) -> Result<Vec<Ranked>, AllocError>
     requires bound { IsBound l }
     requires centres { All (IsCentre l) points.now }
-    ensures { IfOk result (λ ranked. map (λ r. point_of r.centre) ranked.items ≡ in_order (record_lt l) points.now) }
+    requires differ { IsDistinct point_eq points.now }
+    ensures { IfOk result (λ ranked. map ranked_point ranked.items ≡ in_order (record_lt l) points.now) }
 {
     let mut ranked = rank(alloc, points, l)?;
     ranked.sort_unstable();
