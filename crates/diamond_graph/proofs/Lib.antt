@@ -4,3 +4,4 @@ pub mod CentreFacts
 pub mod AddingLaw
 pub mod ClosingLaw
 pub mod RankLaw
+pub mod GraphLaw
