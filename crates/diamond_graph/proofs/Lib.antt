@@ -5,3 +5,4 @@ pub mod AddingLaw
 pub mod ClosingLaw
 pub mod RankLaw
 pub mod GraphLaw
+pub mod CutBuilding
