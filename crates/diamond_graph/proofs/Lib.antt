@@ -6,3 +6,4 @@ pub mod ClosingLaw
 pub mod RankLaw
 pub mod GraphLaw
 pub mod CutBuilding
+mod WorkedClosures
