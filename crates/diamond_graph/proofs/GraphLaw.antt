@@ -3,7 +3,7 @@ use Rattle.std.proofs.Common.{◌≡◌, ℕ, zero, suc, ◌+◌, ◌<◌, ◌�
 use Rattle.std.specs.Prelude.{All}
 use Rattle.std.specs.List.{list_any}
 use Rattle.std.proofs.lemmas.List.{length-map}
-use Rattle.std.proofs.lemmas.List.Elements.{All-weaker}
+use Rattle.std.proofs.lemmas.List.Elements.{All-weaker, All-map}
 use Rattle.tpz_base.specs.declared.shape.Point.{Point}
 use Rattle.tpz_base.specs.Points.{point_eq}
 use Rattle.tpz_base.specs.Lists.{in_order}
@@ -12,14 +12,15 @@ use Rattle.tpz_base.proofs.PointLemmas.{ne-point_eq}
 use Rattle.tpz_base.proofs.Members.{NoTwice}
 use Rattle.tpz_base.proofs.Elements.{map-member, ascending-no_twice}
 use Rattle.tpz_base.proofs.RecordLt.{record_lt-same}
-use Rattle.tetra_name.specs.Names.{IsCentre}
+use Rattle.tetra_name.specs.Names.{IsBound, IsCentre}
+use Rattle.tetra_name.proofs.NamesLaw.{within_of}
 use Rattle.indexmap.specs.IndexSet.{insert_key}
 use Rattle.diamond_graph.specs.declared.record.Record.{Record}
 use Rattle.diamond_graph.specs.declared.rank.Ranked.{Ranked}
 use Rattle.diamond_graph.specs.Closed.{CanSplit, IsClosedSet}
 use Rattle.diamond_graph.specs.Adding.{IsKept}
 use Rattle.diamond_graph.specs.Ranks.{ranked_point}
-use Rattle.diamond_graph.specs.Graphs.{GraphState, centre_of, centres, fresh_record, IsGraph}
+use Rattle.diamond_graph.specs.Graphs.{GraphState, centre_of, centres, fresh_record, IsRecord, IsGraph}
 use Rattle.diamond_graph.proofs.SetLaw.{in_order-ascends, in_order-length}
 use Rattle.diamond_graph.proofs.CentreFacts.{get_member}
 use Rattle.diamond_graph.proofs.ClosingLaw.{closed_set}
@@ -63,6 +64,19 @@ fresh_centres (d ∷ ds) = ap (λ xs. d ∷ xs) (fresh_centres ds)
 pub whole_index : (L : ℕ) (keys now : List Point) (records : List Record) → now ≡ in_order (record_lt L) keys → records ≡ map fresh_record (in_order (record_lt L) keys) → now ≡ map centre_of records
 whole_index L keys now records is made = is ∙ sym (ap (map centre_of) made ∙ fresh_centres (in_order (record_lt L) keys))
 
+-- a fresh record is right
+fresh_right : (L : ℕ) (d : Point) → IsBound L → CanSplit L d → IsRecord L (fresh_record d)
+fresh_right L d bound h =
+    let w = within_of L d bound.most h.0 in
+    record {
+      own = omega arith;
+      err = omega arith;
+      cell = record { x = omega arith; y = omega arith; z = omega arith; within = (omega (arith, w.0), omega (arith, w.1), omega (arith, w.2)) };
+    }
+
+all_right : (L : ℕ) (ds : List Point) → IsBound L → All (CanSplit L) ds → All (IsRecord L) (map fresh_record ds)
+all_right L ds bound h = All-map (IsRecord L) fresh_record ds (All-weaker (CanSplit L) (λ d. IsRecord L (fresh_record d)) (λ d k. fresh_right L d bound k) ds h)
+
 -- the records of a closing are those of a graph
 pub graph_made : (L : ℕ) (keys : List Point) (records : List Record) → IsKept L keys → records ≡ map fresh_record (in_order (record_lt L) keys)
     → IsGraph (record { l = L; records = records; tests = 0 })
@@ -70,7 +84,12 @@ graph_made L keys records h made =
     let are : map centre_of records ≡ in_order (record_lt L) keys = ap (map centre_of) made ∙ fresh_centres (in_order (record_lt L) keys) in
     let few = in_order-length (record_lt L) keys in
     let same : length records ≡ length (in_order (record_lt L) keys) = ap length made ∙ length-map (in_order (record_lt L) keys) fresh_record in
-    record { bound = h.bound; closed = subst (IsClosedSet L) (sym are) (closed_set L keys h); few = (let m = h.few in omega (arith, few, same, m)) }
+    record {
+      bound = h.bound;
+      closed = subst (IsClosedSet L) (sym are) (closed_set L keys h);
+      right = subst (All (IsRecord L)) (sym made) (all_right L (in_order (record_lt L) keys) h.bound (closed_set L keys h).can_split);
+      few = (let m = h.few in omega (arith, few, same, m));
+    }
 
 map-end : {X Y : Type 0} (f : X → Y) (xs : List X) (x : X) → map f (xs ++ x ∷ []) ≡ map f xs ++ f x ∷ []
 map-end f [] x = refl
