@@ -1,26 +1,25 @@
 -- A diamond is added to a conforming set after its parents, which are added in turn in the same way.
-use Rattle.std.proofs.Common.{◌≡◌, ℕ, suc, ◌+◌, ◌<◌, ◌≤◌, ◌⊎◌, Bool, true, false, ◌||◌, List, [], ◌∷◌, ◌++◌, length, map, take, refl, sym, ◌∙◌, ap, ap₂, subst, inl, inr, arith, true≢false, get_or, length-append}
+use Rattle.std.proofs.Common.{◌≡◌, ℕ, ◌+◌, ◌<◌, ◌≤◌, Bool, true, false, ◌||◌, List, [], ◌∷◌, ◌++◌, length, map, take, refl, sym, ◌∙◌, ap, ap₂, subst, inl, inr, arith, true≢false, get_or}
 use Rattle.std.specs.Prelude.{All, Result, Ok, Err, OnOk, OnErr}
-use Rattle.std.specs.List.{list_all, IsDistinct}
-use Rattle.std.proofs.lemmas.Bool.{cases_Bool, or_cases, or_left, or_right, false_from_ne_true}
+use Rattle.std.specs.List.{IsDistinct}
+use Rattle.std.proofs.lemmas.Bool.{or_cases, or_left, or_right, false_from_ne_true}
 use Rattle.std.proofs.lemmas.List.Elements.{All-nil, All-more, All-weaker, All-map}
 use Rattle.tpz_base.specs.declared.shape.Point.{Point}
 use Rattle.tpz_base.specs.Points.{point_eq}
 use Rattle.tpz_base.specs.Tetrahedra.{parents}
 use Rattle.tpz_base.specs.Cuts.{has_diamond}
-use Rattle.tpz_base.specs.Diamonds.{level_of, record_lt, ancestry}
-use Rattle.tpz_base.specs.Lists.{in_order}
-use Rattle.tpz_base.proofs.PointLemmas.{point_eq-true, eq-point_eq, point_eq_refl}
+use Rattle.tpz_base.specs.Diamonds.{ancestry}
+use Rattle.tpz_base.proofs.PointLemmas.{point_eq-true, point_eq_refl}
 use Rattle.tpz_base.proofs.CutLaw.{Member}
 use Rattle.tpz_base.proofs.Members.{NoTwice}
 use Rattle.tpz_base.proofs.Elements.{has-member, member-has, all_from, at_all}
 use Rattle.tpz_base.proofs.Diamonds.{IsSplittable, parent-splittable}
 use Rattle.tetra_name.specs.declared.shape.Half.{Half}
 use Rattle.tetra_name.specs.Names.{point_of}
-use Rattle.diamond_graph.specs.Closed.{closure, has_parents, IsConforming, IsPartOf, IsLeastClosed, CanSplit}
+use Rattle.diamond_graph.specs.Closed.{closure, has_parents, IsConforming, IsPartOf}
 use Rattle.diamond_graph.specs.Adding.{most_centres, GrowsTowards}
-use Rattle.diamond_graph.proofs.ClosureLaw.{lineage_self, lineage_splittable, lineage_least, ancestry_closed, ancestry_through, member-closure, closure-member, closure_holds, closure_closed, closure_least, closure_ascends}
-use Rattle.diamond_graph.proofs.SetLaw.{both_ways, record_order_same, has-in_order, in_order-ascends, fewer, closure-once, closure_own, closure_within, no_twice_keys}
+use Rattle.diamond_graph.proofs.ClosureLaw.{lineage_self, lineage_least, ancestry_closed, ancestry_through, closure-member, closure_holds, closure_closed, closure_least}
+use Rattle.diamond_graph.proofs.SetLaw.{both_ways, fewer, closure-once, no_twice_keys}
 use Rattle.diamond_graph.proofs.CentreFacts.{member_all, ancestry_level, parent_above}
 
 -- a set after one more diamond and its ancestors are in it

@@ -4,7 +4,7 @@ use Rattle.std.specs.Prelude.{All}
 use Rattle.std.proofs.lemmas.List.Elements.{All-nil, All-cons, All-head, All-tail}
 use Rattle.std.proofs.lemmas.Option.{get_or_from_slice_get}
 use Rattle.tpz_base.specs.declared.shape.Point.{Point}
-use Rattle.tpz_base.specs.Tetrahedra.{Tetrahedron, diamond, members, parents}
+use Rattle.tpz_base.specs.Tetrahedra.{members, parents}
 use Rattle.tpz_base.specs.Diamonds.{level_of, lineage, ancestry}
 use Rattle.tpz_base.proofs.CutLaw.{Member, is_parent}
 use Rattle.tpz_base.proofs.Distinct.{member-flat_map}
@@ -23,7 +23,6 @@ member_all P (y ∷ ys) x h m = elim m [ inl e ↦ subst P e (All-head P y ys h)
 pub all_members : {X : Type 0} (P : X → Type 0) (xs : List X) → ((x : X) → Member xs x → P x) → All P xs
 all_members P [] h = All-nil P
 all_members P (x ∷ xs) h = All-cons P x xs (h x (inl refl)) (all_members P xs (λ y m. h y (inr m)))
-
 
 -- a centre above the last level is the diamond of a tetrahedron there
 pub splittable : (L : ℕ) (d : Point) → CanSplit L d → IsSplittable L d

@@ -1,11 +1,8 @@
 -- A closing seen as its set in record order.
-use Rattle.std.proofs.Common.{◌≡◌, ℕ, ◌<◌, ◌≤◌, true, ◌||◌, List, [], ◌∷◌, length, refl, sym, ◌∙◌, ap, ap₂, subst, inl, inr, arith}
-use Rattle.std.specs.Prelude.{All, Result, Ok, Err, OnOk, OnErr}
+use Rattle.std.proofs.Common.{◌≡◌, ℕ, ◌≤◌, true, ◌||◌, List, [], ◌∷◌, length, refl, sym, ◌∙◌, ap, subst, inl, inr, arith}
 use Rattle.std.proofs.lemmas.Bool.{or_cases, or_left, or_right}
-use Rattle.std.proofs.lemmas.Result.{on_ok_weaker}
 use Rattle.std.proofs.lemmas.List.Elements.{All-nil}
 use Rattle.tpz_base.specs.declared.shape.Point.{Point}
-use Rattle.tpz_base.specs.Points.{point_eq}
 use Rattle.tpz_base.specs.Lists.{in_order}
 use Rattle.tpz_base.specs.Tetrahedra.{parents}
 use Rattle.tpz_base.specs.Cuts.{has_diamond}
@@ -16,7 +13,7 @@ use Rattle.tetra_name.specs.Names.{IsBound}
 use Rattle.diamond_graph.specs.Closed.{closure, has_parents, CanSplit, IsConforming, IsClosedSet, IsLeastClosed}
 use Rattle.diamond_graph.specs.Adding.{most_centres, GrowsTowards, IsKept}
 use Rattle.diamond_graph.proofs.ClosureLaw.{lineage_splittable, member-closure, closure-member, lineage_self, lineage_least, closure_holds, closure_closed, closure_least, closure_ascends}
-use Rattle.diamond_graph.proofs.SetLaw.{both_ways, record_order_same, has-in_order, in_order-ascends, in_order-ascended, in_order-length, closure-in_order}
+use Rattle.diamond_graph.proofs.SetLaw.{both_ways, record_order_same, has-in_order, in_order-ascends, in_order-ascended, closure-in_order}
 use Rattle.diamond_graph.proofs.CentreFacts.{member_all, all_members, splittable, can_split}
 use Rattle.diamond_graph.proofs.AddingLaw.{HasAdded}
 

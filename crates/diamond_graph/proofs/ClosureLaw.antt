@@ -1,17 +1,17 @@
 -- The closed set of given diamonds is the least one, and stands in record order.
-use Rattle.std.proofs.Common.{◌≡◌, ℕ, zero, suc, ◌+◌, ◌*◌, ◌<◌, ◌⊎◌, true, List, [], ◌∷◌, ◌++◌, refl, sym, subst, inl, inr, arith}
+use Rattle.std.proofs.Common.{◌≡◌, ℕ, zero, suc, ◌+◌, ◌*◌, ◌<◌, true, List, ◌++◌, refl, sym, subst, inl, inr, arith}
 use Rattle.std.specs.Prelude.{flat_map}
 use Rattle.tpz_base.specs.declared.shape.Point.{Point}
-use Rattle.tpz_base.specs.Tetrahedra.{Tetrahedron, diamond, roots, descendants, members, parts, parents}
+use Rattle.tpz_base.specs.Tetrahedra.{Tetrahedron, roots, descendants, members, parts, parents}
 use Rattle.tpz_base.specs.Cuts.{has_diamond}
-use Rattle.tpz_base.specs.Diamonds.{level_of, record_lt, lineage, ancestry}
+use Rattle.tpz_base.specs.Diamonds.{record_lt, lineage, ancestry}
 use Rattle.tpz_base.proofs.CutLaw.{Member, is_parent, member-left, member-right}
 use Rattle.tpz_base.proofs.Distinct.{member-flat_map}
 use Rattle.tpz_base.proofs.Members.{member_named}
 use Rattle.tpz_base.proofs.Elements.{Ascending, has-member, member-has, at_all, all_from, flat_map-member, member-in_order, in_order-member, in_order-ascending}
 use Rattle.tpz_base.proofs.RecordLt.{record_lt-tie, record_lt-through}
 use Rattle.tpz_base.proofs.Diamonds.{IsSplittable, level_at, parents-member, parent-splittable, parent_level, root_or_part}
-use Rattle.diamond_graph.specs.Closed.{closure, has_parents, IsConforming, IsPartOf, IsLeastClosed}
+use Rattle.diamond_graph.specs.Closed.{closure, has_parents, IsConforming}
 
 pub lineage_self : (L n : ℕ) (d : Point) → Member (lineage L n d) d
 lineage_self L zero d = inl refl

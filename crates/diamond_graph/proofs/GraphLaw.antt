@@ -1,5 +1,5 @@
 -- A graph made of centres in record order.
-use Rattle.std.proofs.Common.{◌≡◌, ℕ, zero, suc, ◌+◌, ◌<◌, ◌≤◌, Bool, true, false, ◌||◌, List, [], ◌∷◌, ◌++◌, map, take, length, get_or, refl, sym, ◌∙◌, ap, ap₂, subst, inl, inr, arith}
+use Rattle.std.proofs.Common.{◌≡◌, ℕ, zero, suc, ◌+◌, ◌<◌, ◌≤◌, false, ◌||◌, List, [], ◌∷◌, ◌++◌, map, take, length, get_or, refl, sym, ◌∙◌, ap, ap₂, subst, arith}
 use Rattle.std.specs.Prelude.{All}
 use Rattle.std.specs.List.{list_any}
 use Rattle.std.proofs.lemmas.List.{length-map}
@@ -20,7 +20,7 @@ use Rattle.diamond_graph.specs.declared.rank.Ranked.{Ranked}
 use Rattle.diamond_graph.specs.Closed.{CanSplit, IsClosedSet}
 use Rattle.diamond_graph.specs.Adding.{IsKept}
 use Rattle.diamond_graph.specs.Ranks.{ranked_point}
-use Rattle.diamond_graph.specs.Graphs.{GraphState, centre_of, centres, fresh_record, IsRecord, IsGraph}
+use Rattle.diamond_graph.specs.Graphs.{centre_of, fresh_record, IsRecord, IsGraph}
 use Rattle.diamond_graph.proofs.SetLaw.{in_order-ascends, in_order-length}
 use Rattle.diamond_graph.proofs.CentreFacts.{get_member}
 use Rattle.diamond_graph.proofs.ClosingLaw.{closed_set}

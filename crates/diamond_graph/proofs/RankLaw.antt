@@ -1,5 +1,5 @@
 -- Centres sorted by level, then by centre, are in record order.
-use Rattle.std.proofs.Common.{◌≡◌, ℕ, zero, suc, ◌+◌, ◌<◌, ◌≤◌, Bool, true, false, cond, ◌&&◌, ◌||◌, List, [], ◌∷◌, map, length, drop, get_or, refl, sym, ◌∙◌, ap, subst, inl, inr, arith}
+use Rattle.std.proofs.Common.{◌≡◌, ℕ, suc, ◌+◌, ◌<◌, ◌≤◌, Bool, true, false, cond, ◌&&◌, ◌||◌, List, [], ◌∷◌, map, length, drop, get_or, refl, sym, ◌∙◌, ap, subst, inl, inr, arith}
 use Rattle.std.specs.Prelude.{All, IsPermutation, zip, nat_lt, ◌==◌}
 use Rattle.std.specs.declared.cmp.Ordering.{Ordering}
 use Rattle.std.specs.declared.cmp.Ordering.TheVariants.{Less, Equal, Greater}
@@ -12,11 +12,10 @@ use Rattle.std.proofs.lemmas.Map.Keys.{IsDistinct-IsPermutation}
 use Rattle.tpz_base.specs.declared.shape.Point.{Point}
 use Rattle.tpz_base.specs.Points.{point_eq, point_lt}
 use Rattle.tpz_base.specs.Lists.{in_order}
-use Rattle.tpz_base.specs.Cuts.{has_diamond}
 use Rattle.tpz_base.specs.Diamonds.{level_of, record_lt}
 use Rattle.tpz_base.proofs.PointLemmas.{point_eq_sym}
 use Rattle.tpz_base.proofs.Members.{NoTwice}
-use Rattle.tpz_base.proofs.Elements.{Ascending, ascending_from}
+use Rattle.tpz_base.proofs.Elements.{ascending_from}
 use Rattle.tpz_base.proofs.RecordLt.{record_lt-tie, record_lt-through}
 use Rattle.diamond_graph.specs.declared.rank.Ranked.{Ranked}
 use Rattle.diamond_graph.specs.Ranks.{rank_of, ranked_point}

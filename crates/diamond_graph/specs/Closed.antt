@@ -1,5 +1,5 @@
 -- Sets of diamonds that hold the parents of each of their members, and the least such set that holds given diamonds.
-use Rattle.std.specs.Prelude.{◌≡◌, ◌<◌, ℕ, ◌*◌, Bool, true, List, ◌∷◌, All, flat_map}
+use Rattle.std.specs.Prelude.{◌≡◌, ◌<◌, ℕ, ◌*◌, Bool, true, List, All, flat_map}
 use Rattle.std.specs.List.{list_all}
 use Rattle.tpz_base.specs.declared.shape.Point.{Point}
 use Rattle.tpz_base.specs.Lists.{in_order}

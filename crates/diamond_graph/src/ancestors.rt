@@ -46,7 +46,11 @@ fn add_alone(centres: &mut IndexSet<Point>, p: Point) -> Result<(), ClosingFault
 
 /// Adds a centre and those of its ancestors that aren't there. A parent is added before its kids, so the set is conforming at each moment, and
 /// nothing is looked for above a centre that is there.
-pub(crate) fn add_with_ancestors(centres: &mut IndexSet<Point>, c: Half, l: u8) -> Result<(), ClosingFault>
+pub(crate) fn add_with_ancestors(
+    centres: &mut IndexSet<Point>,
+    c: Half,
+    l: u8,
+) -> Result<(), ClosingFault>
     requires bound { IsBound l }
     requires centre { CanSplit l (point_of c) }
     requires conforming { IsConforming l centres.old.keys }

@@ -39,7 +39,11 @@ impl Model for Graph {
 
 impl Graph {
     /// The graph of a set of centres.
-    pub(crate) fn with_centres(alloc: Global, l: u8, mut centres: IndexSet<Point>) -> Result<Self, AllocError>
+    pub(crate) fn with_centres(
+        alloc: Global,
+        l: u8,
+        mut centres: IndexSet<Point>,
+    ) -> Result<Self, AllocError>
         requires { IsKept l centres.keys }
         ensures { IfOk result (λ graph. graph ≡ record { l = l; records = map fresh_record (in_order (record_lt l) centres.keys); tests = 0 }) }
     {

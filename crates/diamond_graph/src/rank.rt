@@ -37,7 +37,11 @@ fn rank(alloc: Global, points: &[Point], l: u8) -> Result<Vec<Ranked>, AllocErro
 }
 
 /// The centres in record order.
-pub(crate) fn in_record_order(alloc: Global, points: &[Point], l: u8) -> Result<Vec<Ranked>, AllocError>
+pub(crate) fn in_record_order(
+    alloc: Global,
+    points: &[Point],
+    l: u8,
+) -> Result<Vec<Ranked>, AllocError>
     requires bound { IsBound l }
     requires centres { All (IsCentre l) points.now }
     requires differ { IsDistinct point_eq points.now }

@@ -4,7 +4,7 @@ use Rattle.std.proofs.lemmas.Result.{on_ok_weaker}
 use Rattle.tpz_base.specs.Lists.{in_order}
 use Rattle.tpz_base.specs.Diamonds.{record_lt}
 use Rattle.tetra_name.specs.Names.{point_of}
-use Rattle.diamond_graph.specs.Closed.{closure, CanSplit, IsLeastClosed}
+use Rattle.diamond_graph.specs.Closed.{CanSplit, IsLeastClosed}
 use Rattle.diamond_graph.specs.Adding.{ClosingState, IsKept, most_centres}
 use Rattle.diamond_graph.proofs.SetLaw.{in_order-length, closure-in_order}
 use Rattle.diamond_graph.proofs.ClosingLaw.{closed_set, kept_grown, grown_in_order, added_closure, least_closed}

@@ -1,6 +1,5 @@
 -- The index and the records grow in record order, and at the end they are those of the set.
-use Rattle.std.proofs.Common.{◌≡◌, ◌<◌, ◌∙◌, List, length, map, take, refl, ap, arith}
-use Rattle.tpz_base.specs.declared.shape.Point.{Point}
+use Rattle.std.proofs.Common.{◌≡◌, ◌<◌, ◌∙◌, List, length, map, refl, ap, arith}
 use Rattle.tpz_base.specs.Lists.{in_order}
 use Rattle.tpz_base.specs.Diamonds.{record_lt}
 use Rattle.diamond_graph.specs.declared.rank.Ranked.{Ranked}
