@@ -74,6 +74,20 @@ not_ancestor L d p h m =
     let low = ancestry_level L p d (parent-splittable L d p h m) (has-member (ancestry L p) d k) in
     absurd (omega (arith, up, low)))
 
+-- what grows towards a parent of d doesn't come to hold d
+pub still_absent : (L : ℕ) (d p : Point) (now new : List Point) → IsSplittable L d → Member (parents L d) p → has_diamond now d ≡ false → GrowsTowards L p now new → has_diamond new d ≡ false
+still_absent L d p now new h m absent g =
+    false_from_ne_true (has_diamond new d) (λ k.
+    elim (or_cases (has_diamond now d) (has_diamond (ancestry L p) d) (g.others d k)) [
+      | inl e ↦ true≢false (sym e ∙ absent)
+      | inr e ↦ true≢false (sym e ∙ not_ancestor L d p h m)
+    ])
+
+-- what holds whatever was answered
+pub on_err_always : {T E P : Type 0} (r : Result T E) → P → OnErr r P
+on_err_always (Ok u) p = tt
+on_err_always (Err e) p = p
+
 pub partway_more : (L : ℕ) (d : Point) (old now new : List Point) (ps : List Half) (i : ℕ) (p : Half) → IsSplittable L d → Member (parents L d) (point_of p)
     → i < length ps → get_or ps i p ≡ p → IsPartway L d old now ps i → HasAdded L (point_of p) now new → GrowsTowards L (point_of p) now new → length new ≤ most_centres
     → IsPartway L d old new ps (i + 1)
@@ -181,3 +195,7 @@ module _ (L : ℕ) (d : Point) (old now : List Point) (ps : List Half) (s : IsPa
   pub end_ok : {T E : Type 0} (new : List Point) (r : Result T E) → OnOk r (new ≡ now ++ d ∷ []) → OnOk r (HasAdded L d old new)
   end_ok new (Ok u) h = subst (HasAdded L d old) (sym h) end_added
   end_ok new (Err e) h = tt
+
+  pub end_absent : {T E : Type 0} (new : List Point) (r : Result T E) → OnErr r (new ≡ now) → OnErr r (has_diamond new d ≡ false)
+  end_absent new (Ok u) h = tt
+  end_absent new (Err e) h = ap (λ K. has_diamond K d) h ∙ s.absent

@@ -57,6 +57,7 @@ pub(crate) fn add_with_ancestors(
     requires few { length centres.old.keys ≤ most_centres }
     ensures ok { OnOk result ((x : Point) → has_diamond centres.new.keys x ≡ has_diamond centres.old.keys x || has_diamond (ancestry l (point_of c)) x) }
     ensures grows { GrowsTowards l (point_of c) centres.old.keys centres.new.keys }
+    ensures refused { OnErr result (has_diamond centres.new.keys (point_of c) ≡ false) }
     ensures few { length centres.new.keys ≤ most_centres }
     ensures too_many { result ≡ Err ClosingFault.TooManyRecords → most_centres < length (closure l (point_of c ∷ centres.old.keys)) }
 {

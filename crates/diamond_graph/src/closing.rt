@@ -1,5 +1,5 @@
 // A set of diamonds that grows, and holds the parents of each of its members at every moment.
-ghost use Rattle.std.specs.Prelude.{◌≡◌, ◌<◌, ◌≤◌, ◌*◌, ◌∷◌, [], length, map, IfOk, OnOk, OnErr};
+ghost use Rattle.std.specs.Prelude.{◌≡◌, ◌<◌, ◌≤◌, ◌*◌, ◌∷◌, [], false, length, map, IfOk, OnOk, OnErr};
 ghost use Rattle.tpz_base.specs.Cuts.{has_diamond};
 ghost use Rattle.tpz_base.specs.Diamonds.{level_of};
 ghost use Rattle.tetra_name.specs.Names.{point_of, IsBound, IsCentre};
@@ -61,7 +61,7 @@ impl Closing {
     /// Adds the centre and all its ancestors, parents first: the set becomes the least one that holds what it held and this centre, and the
     /// parents of each of its members. TooManyRecords comes exactly where that set has more than 67,108,864 centres, unless memory ran out.
     ///
-    /// After an error the set holds what it held, and else only ancestors of the centre.
+    /// After an error the set holds what it held, and else only ancestors of the centre, but not the centre itself.
     pub fn add_closed(&mut self, centre: Half) -> Result<(), ClosingFault>
         requires centre { IsCentre self.old.l (point_of centre) }
         requires level { level_of self.old.l (point_of centre) < 3 * self.old.l }
@@ -71,6 +71,7 @@ impl Closing {
         ensures few { length self.new.set ≤ most_centres }
         ensures too_many { result ≡ Err ClosingFault.TooManyRecords → most_centres < length (closure self.old.l (point_of centre ∷ self.old.set)) }
         ensures refused { OnErr result (GrowsTowards self.old.l (point_of centre) self.old.set self.new.set) }
+        ensures absent { OnErr result (has_diamond self.new.set (point_of centre) ≡ false) }
         ensures closed { IsClosedSet self.new.l self.new.set }
     {
         add_with_ancestors(&mut self.centres, centre, self.l)

@@ -1,12 +1,13 @@
 -- What was added to the keys was added to the set in record order.
-use Rattle.std.proofs.Common.{◌<◌, ◌∷◌, length, Result, Ok, Err, OnErr, sym, subst, arith}
-use Rattle.std.proofs.lemmas.Result.{on_ok_weaker}
+use Rattle.std.proofs.Common.{◌<◌, ◌∙◌, ◌∷◌, length, sym, subst, arith}
+use Rattle.std.proofs.lemmas.Result.{on_ok_weaker, IfErr-weaker}
 use Rattle.tpz_base.specs.Lists.{in_order}
 use Rattle.tpz_base.specs.Diamonds.{record_lt}
 use Rattle.tetra_name.specs.Names.{point_of}
 use Rattle.diamond_graph.specs.Closed.{CanSplit, IsLeastClosed}
 use Rattle.diamond_graph.specs.Adding.{ClosingState, IsKept, most_centres}
-use Rattle.diamond_graph.proofs.SetLaw.{in_order-length, closure-in_order}
+use Rattle.diamond_graph.proofs.SetLaw.{has-in_order, in_order-length, closure-in_order}
+use Rattle.diamond_graph.proofs.AddingLaw.{on_err_always}
 use Rattle.diamond_graph.proofs.ClosingLaw.{closed_set, kept_grown, grown_in_order, added_closure, least_closed}
 use Rattle.diamond_graph.proofs.closing.Closing.add_closed.Goals as goal
 use Rattle.diamond_graph.proofs.closing.Closing.add_closed.Goals.{After-add_with_ancestors}
@@ -51,16 +52,16 @@ returns-clause-too_many c =
     let same = closure-in_order L d c.self.inside.centres.keys in
     rw (← c.self.view_is) (λ e. subst (λ F. most_centres < length F) (sym same) (c.add_with_ancestors.ensures.too_many e))
 
-always : {T E P : Type 0} (r : Result T E) → P → OnErr r P
-always (Ok u) p = tt
-always (Err e) p = p
-
 pub returns-clause-refused : goal.returns-clause-refused
 returns-clause-refused c =
     let L = c.self.inside.l in
     let d = point_of c.args.centre in
     rw (← c.self.view_is)
-    (always c.add_with_ancestors.result (grown_in_order L d c.self.inside.centres.keys c.add_with_ancestors.new.centres.keys c.add_with_ancestors.ensures.grows))
+    (on_err_always c.add_with_ancestors.result (grown_in_order L d c.self.inside.centres.keys c.add_with_ancestors.new.centres.keys c.add_with_ancestors.ensures.grows))
+
+pub returns-clause-absent : goal.returns-clause-absent
+returns-clause-absent c =
+    IfErr-weaker c.add_with_ancestors.result _ _ (λ e h. has-in_order c.self.inside.l c.add_with_ancestors.new.centres.keys (point_of c.args.centre) ∙ h) c.add_with_ancestors.ensures.refused
 
 pub returns-clause-closed : goal.returns-clause-closed
 returns-clause-closed c = closed_set c.self.inside.l c.add_with_ancestors.new.centres.keys (kept (goal.at.returns-clause-closed c).After-add_with_ancestors)
