@@ -1,3 +1,5 @@
+pub mod SideLaw
+pub mod SideSign
 pub mod Volumes
 pub mod RootLaw
 mod WorkedPaths

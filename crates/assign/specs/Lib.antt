@@ -1,3 +1,4 @@
 pub mod Paths
 pub mod Leaf
 pub mod Sums
+pub mod Leans

@@ -1,5 +1,5 @@
 -- The path of a triangle's barycentre through the hierarchy.
-use Rattle.std.specs.Prelude.{◌≤◌, ℕ, zero, suc, ◌+◌, ◌-◌, ◌*◌, ◌^◌, Bool, List, [], ◌∷◌, ◌++◌, map, take, drop, if◌then◌else◌, ℤ, pos, ◌*ℤ◌, int_lt}
+use Rattle.std.specs.Prelude.{ℕ, zero, suc, ◌+◌, ◌-◌, ◌*◌, Bool, List, [], ◌∷◌, ◌++◌, map, take, drop, if◌then◌else◌, ℤ, pos, ◌*ℤ◌, int_lt}
 use Rattle.std.specs.List.{slice_index_or}
 use Rattle.tpz_base.specs.declared.shape.Point.{Point}
 use Rattle.tpz_base.specs.declared.shape.Tri.{Tri}
@@ -41,9 +41,3 @@ path_below (suc n) t T = T ∷ path_below n t (entered t T)
 -- from the root to the last level
 unfoldable pub path : ℕ → Tri → List Tetrahedron
 path L t = path_below (3 * L) t (root_of L t)
-
--- the triangle lies in a cube of this side
-pub record IsTriWithin (side : ℕ) (t : Tri) : Type 0 where
-  pub a : (t.a.x ≤ side) × (t.a.y ≤ side) × (t.a.z ≤ side)
-  pub b : (t.b.x ≤ side) × (t.b.y ≤ side) × (t.b.z ≤ side)
-  pub c : (t.c.x ≤ side) × (t.c.y ≤ side) × (t.c.z ≤ side)
