@@ -1,3 +1,5 @@
+pub mod Sides
+pub mod DriftLaw
 pub mod SideLaw
 pub mod SideSign
 pub mod Volumes

@@ -40,7 +40,7 @@ end_at_2 : (T : Tetrahedron) (a b c d : Point) → T.level % 3 ≡ 2 → T.corne
 end_at_2 T a b c d n e = rw (n, e) refl
 
 -- three times as large
-scale_at : (k : ℕ) (w : Order) (p q r : ℕ) → point_scale k (along w p q r) ≡ along w (k * p) (k * q) (k * r)
+pub scale_at : (k : ℕ) (w : Order) (p q r : ℕ) → point_scale k (along w p q r) ≡ along w (k * p) (k * q) (k * r)
 scale_at k xyz p q r = refl
 scale_at k xzy p q r = refl
 scale_at k yxz p q r = refl

@@ -4,7 +4,10 @@
 //! side of the bisecting plane. A triangle in a plane goes to child 0, so it has exactly one path.
 #![tactic(auto)]
 
+mod plane;
 mod root;
 mod sum;
 
+pub use plane::side;
 pub use root::root_of;
+

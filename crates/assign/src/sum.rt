@@ -1,5 +1,5 @@
 // Three times the barycentre of a triangle.
-ghost use Rattle.std.specs.Prelude.{◌≡◌, ◌+◌};
+ghost use Rattle.std.specs.Prelude.{◌≡◌, ◌<◌, ◌+◌, ◌*◌, ◌^◌};
 ghost use Rattle.tpz_base.specs.Roots.{corner_sum};
 ghost use Rattle.assign.specs.Sums.{point_at};
 
@@ -16,7 +16,8 @@ pub(crate) struct Sum {
 /// A sum of three coordinates.
 #[inline]
 fn sum_of(a: u32, b: u32, c: u32) -> u64
-    ensures { result ≡ a + (b + c) }
+    ensures value { result ≡ a + (b + c) }
+    ensures bound { result < 3 * 2 ^ 32 }
 {
     u64::from(a) + (u64::from(b) + u64::from(c))
 }
@@ -24,7 +25,10 @@ fn sum_of(a: u32, b: u32, c: u32) -> u64
 /// The sum of the corners.
 #[inline]
 pub(crate) fn corner_sum(t: &Tri) -> Sum
-    ensures { point_at result ≡ corner_sum t.now }
+    ensures value { point_at result ≡ corner_sum t.now }
+    ensures x { result.x < 3 * 2 ^ 32 }
+    ensures y { result.y < 3 * 2 ^ 32 }
+    ensures z { result.z < 3 * 2 ^ 32 }
 {
     Sum {
         x: sum_of(t.a.x, t.b.x, t.c.x),
