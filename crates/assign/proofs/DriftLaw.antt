@@ -109,7 +109,7 @@ apart h false m some e k =
     let f : h * start m ≡ h * (m - 1) + 2 * h = ap (λ n. h * n) (start_down m e ∙ ap (λ n. n + 1) g) ∙ omega arith in
     omega (arith, s, f, k, some)
 
-mapped_at : (at : List Half) (i : ℕ) → point_of (slice_index_or at i (record { x = 0; y = 0; z = 0 })) ≡ slice_index_or (map point_of at) i (point 0 0 0)
+pub mapped_at : (at : List Half) (i : ℕ) → point_of (slice_index_or at i (record { x = 0; y = 0; z = 0 })) ≡ slice_index_or (map point_of at) i (point 0 0 0)
 mapped_at [] i = refl
 mapped_at (x ∷ xs) zero = refl
 mapped_at (x ∷ xs) (suc i) = mapped_at xs i

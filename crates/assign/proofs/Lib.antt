@@ -1,3 +1,4 @@
+pub mod NearLaw
 pub mod Sides
 pub mod DriftLaw
 pub mod SideLaw

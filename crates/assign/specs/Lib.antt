@@ -2,3 +2,4 @@ pub mod Paths
 pub mod Leaf
 pub mod Sums
 pub mod Leans
+pub mod Near

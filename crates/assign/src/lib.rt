@@ -4,10 +4,12 @@
 //! side of the bisecting plane. A triangle in a plane goes to child 0, so it has exactly one path.
 #![tactic(auto)]
 
+mod near;
 mod plane;
 mod root;
 mod sum;
 
+pub use near::nearest;
 pub use plane::side;
 pub use root::root_of;
 

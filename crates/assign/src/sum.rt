@@ -1,7 +1,7 @@
 // Three times the barycentre of a triangle.
 ghost use Rattle.std.specs.Prelude.{◌≡◌, ◌<◌, ◌+◌, ◌*◌, ◌^◌};
 ghost use Rattle.tpz_base.specs.Roots.{corner_sum};
-ghost use Rattle.assign.specs.Sums.{point_at};
+ghost use Rattle.assign.specs.Sums.{point_at, IsSum};
 
 use tpz_base::Tri;
 
@@ -26,9 +26,7 @@ fn sum_of(a: u32, b: u32, c: u32) -> u64
 #[inline]
 pub(crate) fn corner_sum(t: &Tri) -> Sum
     ensures value { point_at result ≡ corner_sum t.now }
-    ensures x { result.x < 3 * 2 ^ 32 }
-    ensures y { result.y < 3 * 2 ^ 32 }
-    ensures z { result.z < 3 * 2 ^ 32 }
+    ensures small { IsSum (point_at result) }
 {
     Sum {
         x: sum_of(t.a.x, t.b.x, t.c.x),
