@@ -19,7 +19,8 @@ puts_set xs i e h = record {
   size = sum_by-set size xs i e None h;
 }
 
-list_past : (xs : List (Option Mesh)) (i : ℕ) → length xs ≤ i → list_at xs i ≡ None
+-- past the end there is no list
+pub list_past : (xs : List (Option Mesh)) (i : ℕ) → length xs ≤ i → list_at xs i ≡ None
 list_past xs i h = get_or_past xs i None h
 
 puts_end : (xs : List (Option Mesh)) (e : Option Mesh) → Puts xs (xs ++ e ∷ []) (length xs) e

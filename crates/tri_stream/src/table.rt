@@ -143,7 +143,8 @@ impl Table {
     /// The triangle with this number, from 0, of the list at a place.
     pub fn get(&self, place: u32, i: u64) -> Option<Tri>
         requires { IsSome (list_at self.now place) }
-        ensures { ForSome (list_at self.now place) (λ list. result ≡ slice_get list i) }
+        ensures next { ForSome (list_at self.now place) (λ list. result ≡ slice_get list i) }
+        ensures few { ForSome (list_at self.now place) (λ list. length list < 2 ^ 63) }
     {
         match &self.slots[place as usize] {
             Slot::Taken(list) => tri_at(list, i),
