@@ -4,11 +4,13 @@
 //! side of the bisecting plane. A triangle in a plane goes to child 0, so it has exactly one path.
 #![tactic(auto)]
 
+mod leaf;
 mod near;
 mod plane;
 mod root;
 mod sum;
 
+pub use leaf::leaf_of;
 pub use near::nearest;
 pub use plane::side;
 pub use root::root_of;
