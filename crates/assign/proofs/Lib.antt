@@ -1,3 +1,4 @@
+pub mod TableLaw
 pub mod LeafLaw
 pub mod NearLaw
 pub mod Sides
