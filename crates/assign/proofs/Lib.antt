@@ -1,3 +1,6 @@
+pub mod PathLaw
+pub mod FinestCut
+pub mod SplitLaw
 pub mod TableLaw
 pub mod LeafLaw
 pub mod NearLaw
