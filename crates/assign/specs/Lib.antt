@@ -1,0 +1,7 @@
+pub mod Paths
+pub mod Leaf
+pub mod Sums
+pub mod Leans
+pub mod Near
+pub mod Names
+pub mod Splits

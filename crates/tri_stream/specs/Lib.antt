@@ -1,0 +1,4 @@
+pub mod Cubes
+pub mod Lists
+pub mod Slots
+pub mod Streams
