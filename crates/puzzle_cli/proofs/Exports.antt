@@ -1,22 +1,18 @@
 -- What is written for a mesh, part and note.
-use Rattle.std.proofs.Common.{◌≡◌, ℕ, List, [], ◌∷◌, ◌++◌, length, sym, ◌∙◌, ap, ap₂, subst, arith}
+use Rattle.std.proofs.Common.{◌≡◌, ℕ, List, [], ◌∷◌, ◌++◌, length, refl, sym, ◌∙◌, ap, ap₂, subst, arith}
 use Rattle.std.specs.Prelude.{map}
 use Rattle.std.specs.declared.option.Option.{Option}
 use Rattle.std.proofs.lemmas.List.{append-nil}
 use Rattle.tpz_io.specs.Told.{followed_by}
 use Rattle.tpz_io.specs.Writes.{Item, Wrote, WrotePrefix}
 use Rattle.tpz_base.specs.declared.shape.Point.{Point}
-use Rattle.tpz_base.specs.Lists.{has}
-use Rattle.tpz_base.specs.Points.{point_eq}
 use Rattle.tpz_base.specs.Meshes.{Mesh}
-use Rattle.tpz_base.specs.Cubes.{Row, level_bound, shifted}
-use Rattle.tpz_base.specs.Roots.{mesh_by_roots}
+use Rattle.tpz_base.specs.Cubes.{Row, shifted}
 use Rattle.tpz_base.specs.Texts.{Bytes, Face, vertices, face_in, text, ply_text}
-use Rattle.tpz_base.proofs.RootMesh.{root_mesh_is}
-use Rattle.ply_body.specs.Inputs.{mesh_of}
 use Rattle.puzzle_cli.specs.declared.reading.InputMesh.{InputMesh}
+use Rattle.puzzle_cli.specs.declared.reading.Facts.{Facts}
 use Rattle.puzzle_cli.specs.declared.numbering.Numbered.{Numbered}
-use Rattle.puzzle_cli.specs.Finest.{finest_items, finest_note, items_for, items_of, IsMeshOf}
+use Rattle.puzzle_cli.specs.Finest.{finest_items, finest_note, finest_split, items_for, items_of, mesh_for, split_for, IsMeshOf}
 use Rattle.puzzle_cli.specs.Numbering.{numbered_mesh, IsNumbering}
 use Rattle.puzzle_cli.specs.Parts.{row_of, mesh_text}
 use Rattle.puzzle_cli.proofs.Pieces.{followed_by-nil}
@@ -30,22 +26,21 @@ numbered_text digits low n M is numbering =
 pub nothing : (p0 p1 : Option (List Bytes)) (n0 n1 : Option Bytes) → p1 ≡ p0 → n1 ≡ n0 → Wrote [] p0 p1 n0 n1
 nothing p0 p1 n0 n1 parts notes = record { parts = parts ∙ sym (followed_by-nil p0); notes = notes ∙ sym (followed_by-nil n0) }
 
-module _ (mesh : InputMesh) (n : Numbered) (p0 p1 p2 : Option (List Bytes)) (n0 n1 n2 : Option Bytes)
-    (is : numbered_mesh n ≡ mesh_by_roots mesh.tris.items) (numbering : IsNumbering n)
-    (part : p1 ≡ followed_by p0 (mesh_text mesh.digits (row_of mesh.low) n ∷ [])) (same : n1 ≡ n0) where
-  one_part : p1 ≡ followed_by p0 (text (mesh_by_roots mesh.tris.items) (row_of mesh.low) mesh.digits ∷ [])
-  one_part = part ∙ ap (λ (t : Bytes). followed_by p0 (t ∷ [])) (numbered_text mesh.digits (row_of mesh.low) n (mesh_by_roots mesh.tris.items) is numbering)
+module _ (facts : Facts) (n : Numbered) (p0 p1 p2 : Option (List Bytes)) (n0 n1 n2 : Option Bytes) (numbering : IsNumbering n)
+    (part : p1 ≡ followed_by p0 (mesh_text facts.digits (row_of facts.low) n ∷ [])) (same : n1 ≡ n0) where
+  one_part : p1 ≡ followed_by p0 (text (numbered_mesh n) (row_of facts.low) facts.digits ∷ [])
+  one_part = part ∙ ap (λ (t : Bytes). followed_by p0 (t ∷ [])) (numbered_text facts.digits (row_of facts.low) n (numbered_mesh n) refl numbering)
 
-  pub part_alone : p2 ≡ p1 → n2 ≡ n1 → WrotePrefix (items_of mesh) p0 p2 n0 n2
+  pub part_alone : p2 ≡ p1 → n2 ≡ n1 → WrotePrefix (items_of facts (numbered_mesh n)) p0 p2 n0 n2
   unfolding items_for
   part_alone parts notes = (1, record { parts = parts ∙ one_part; notes = notes ∙ same ∙ sym (followed_by-nil n0) })
 
-  pub part_and_note : (line : Bytes) (vs : List Point) → line ≡ finest_note (length mesh.tris.items) mesh.dropped (length vs) → vs ≡ n.vertices.keys
-      → p2 ≡ p1 → n2 ≡ followed_by n1 (line ++ 10 ∷ []) → Wrote (items_of mesh) p0 p2 n0 n2
+  pub part_and_note : (line : Bytes) (vs : List Point) → line ≡ finest_note facts.tris facts.dropped (length vs) → vs ≡ n.vertices.keys
+      → p2 ≡ p1 → n2 ≡ followed_by n1 (line ++ 10 ∷ []) → Wrote (items_of facts (numbered_mesh n)) p0 p2 n0 n2
   unfolding items_for
   part_and_note line vs says keys parts notes =
-      let whole : line ≡ finest_note (length mesh.tris.items) mesh.dropped (length (vertices (mesh_by_roots mesh.tris.items))) =
-      says ∙ ap (λ (l : List Point). finest_note (length mesh.tris.items) mesh.dropped (length l)) (keys ∙ numbering.keys ∙ ap vertices is) in
+      let whole : line ≡ finest_note facts.tris facts.dropped (length (vertices (numbered_mesh n))) =
+      says ∙ ap (λ (l : List Point). finest_note facts.tris facts.dropped (length l)) (keys ∙ numbering.keys) in
       record {
         parts = parts ∙ one_part;
         notes = notes ∙ ap₂ (λ (u : Option Bytes) (l : Bytes). followed_by u (l ++ 10 ∷ [])) same whole ∙ ap (followed_by n0) (sym (append-nil _));
@@ -55,22 +50,38 @@ items_cong : (digits digits' : ℕ) (low low' : Row) (M M' : Mesh) (tris tris' d
     → tris ≡ tris' → dropped ≡ dropped' → items_for digits low M tris dropped ≡ items_for digits' low' M' tris' dropped'
 items_cong digits digits' low low' M M' tris tris' dropped dropped' d p q r s = cc
 
+-- what is told of a mesh that was read
+pub facts_of : InputMesh → Facts
+facts_of mesh = record { digits = mesh.digits; low = mesh.low; tris = length mesh.tris.items; dropped = mesh.dropped }
+
+mesh_cong : (cap : Option ℕ) (l l' : ℕ) (M M' : Mesh) → l ≡ l' → M ≡ M' → mesh_for cap l M ≡ mesh_for cap l' M'
+mesh_cong cap l l' M M' p q = ap₂ (mesh_for cap) p q
+
 -- what was read of rows and faces is written as their mesh
-pub items_are : (mesh : InputMesh) (digits : ℕ) (rows : List Row) (faces : List Face) → IsMeshOf mesh digits rows faces
-    → items_of mesh ≡ finest_items digits rows faces
-items_are mesh digits rows faces read =
-    items_cong _ _ _ _ _ _ _ _ _ _ read.digits (ap row_of read.low) (ap mesh_by_roots read.tris ∙ sym (root_mesh_is (level_bound rows) (mesh_of rows faces)))
-    (ap length read.tris) read.dropped
+items_are : (cap : Option ℕ) (mesh : InputMesh) (facts : Facts) (M : Mesh) (digits : ℕ) (rows : List Row) (faces : List Face) → IsMeshOf mesh digits rows faces
+    → facts ≡ facts_of mesh → M ≡ mesh_for cap mesh.l mesh.tris.items → items_of facts M ≡ finest_items cap digits rows faces
+items_are cap mesh facts M digits rows faces read is made =
+    items_cong _ _ _ _ _ _ _ _ _ _ (ap (λ (f : Facts). f.digits) is ∙ read.digits) (ap (λ (f : Facts). row_of f.low) is ∙ ap row_of read.low)
+    (made ∙ mesh_cong cap _ _ _ _ read.l read.tris)
+    (ap (λ (f : Facts). f.tris) is ∙ ap length read.tris) (ap (λ (f : Facts). f.dropped) is ∙ read.dropped)
 
 -- What is written for a mesh that was read is what is written for the rows and faces that the input means.
-pub as_told : (mesh : InputMesh) (p0 p1 : Option (List Bytes)) (n0 n1 : Option Bytes) (digits : ℕ) (rows : List Row) (faces : List Face)
-    → IsMeshOf mesh digits rows faces → Wrote (items_of mesh) p0 p1 n0 n1 → Wrote (finest_items digits rows faces) p0 p1 n0 n1
-as_told mesh p0 p1 n0 n1 digits rows faces read wrote = subst (λ items. Wrote items p0 p1 n0 n1) (items_are mesh digits rows faces read) wrote
+pub as_told : (cap : Option ℕ) (mesh : InputMesh) (facts : Facts) (M : Mesh) (p0 p1 : Option (List Bytes)) (n0 n1 : Option Bytes) (digits : ℕ) (rows : List Row) (faces : List Face)
+    → IsMeshOf mesh digits rows faces → facts ≡ facts_of mesh → M ≡ mesh_for cap mesh.l mesh.tris.items
+    → Wrote (items_of facts M) p0 p1 n0 n1 → Wrote (finest_items cap digits rows faces) p0 p1 n0 n1
+as_told cap mesh facts M p0 p1 n0 n1 digits rows faces read is made wrote =
+    subst (λ items. Wrote items p0 p1 n0 n1) (items_are cap mesh facts M digits rows faces read is made) wrote
 
-pub front_as_told : (mesh : InputMesh) (p0 p1 : Option (List Bytes)) (n0 n1 : Option Bytes) (digits : ℕ) (rows : List Row) (faces : List Face)
-    → IsMeshOf mesh digits rows faces → WrotePrefix (items_of mesh) p0 p1 n0 n1 → WrotePrefix (finest_items digits rows faces) p0 p1 n0 n1
-front_as_told mesh p0 p1 n0 n1 digits rows faces read wrote =
-    subst (λ items. WrotePrefix items p0 p1 n0 n1) (items_are mesh digits rows faces read) wrote
+pub front_as_told : (cap : Option ℕ) (mesh : InputMesh) (facts : Facts) (M : Mesh) (p0 p1 : Option (List Bytes)) (n0 n1 : Option Bytes) (digits : ℕ) (rows : List Row) (faces : List Face)
+    → IsMeshOf mesh digits rows faces → facts ≡ facts_of mesh → M ≡ mesh_for cap mesh.l mesh.tris.items
+    → WrotePrefix (items_of facts M) p0 p1 n0 n1 → WrotePrefix (finest_items cap digits rows faces) p0 p1 n0 n1
+front_as_told cap mesh facts M p0 p1 n0 n1 digits rows faces read is made wrote =
+    subst (λ items. WrotePrefix items p0 p1 n0 n1) (items_are cap mesh facts M digits rows faces read is made) wrote
+
+-- the diamonds that are split are those of the rows and faces that the input means
+pub split_is : (cap : Option ℕ) (mesh : InputMesh) (digits : ℕ) (rows : List Row) (faces : List Face) → IsMeshOf mesh digits rows faces
+    → split_for cap mesh.l mesh.tris.items ≡ finest_split cap rows faces
+split_is cap mesh digits rows faces read = ap₂ (split_for cap) read.l read.tris
 
 pub none_yet : (items : List Item) (p0 p1 : Option (List Bytes)) (n0 n1 : Option Bytes) → p1 ≡ p0 → n1 ≡ n0 → WrotePrefix items p0 p1 n0 n1
 none_yet items p0 p1 n0 n1 parts notes = (0, nothing p0 p1 n0 n1 parts notes)

@@ -11,7 +11,7 @@ use Rattle.tpz_base.specs.declared.shape.Point.{Point}
 use Rattle.tpz_base.specs.declared.shape.Tri.{Tri}
 use Rattle.tpz_base.specs.Meshes.{Mesh, is_whole}
 use Rattle.tpz_io.specs.Told.{ahead}
-use Rattle.tpz_base.specs.Cubes.{Row, low_of}
+use Rattle.tpz_base.specs.Cubes.{Row, level_bound, low_of}
 use Rattle.tpz_base.specs.Texts.{Bytes, Face}
 use Rattle.tpz_base.proofs.Elements.{count_by-filter}
 use Rattle.ply_head.specs.declared.fault.HeadFault.{HeadFault}
@@ -23,13 +23,13 @@ use Rattle.ply_body.specs.declared.fault.BodyFault.TheVariants as body
 use Rattle.ply_body.specs.declared.frame.Frame.{Frame}
 use Rattle.ply_body.specs.Items.{◌>>=◌, MOST_BYTES, items_of}
 use Rattle.ply_body.specs.Bodies.{Input, no_input, elements}
-use Rattle.ply_body.specs.Inputs.{Refusal, InHead, InBody, refused_as, default_input, body as body_of, points_of, triangle_at, whole_of, broken_of, setting_of, mesh_of, dropped_of}
+use Rattle.ply_body.specs.Inputs.{Refusal, InHead, InBody, refused_as, body as body_of, points_of, triangle_at, whole_of, broken_of, setting_of, mesh_of, dropped_of}
 use Rattle.ply_body.specs.Spots.{coordinates, spots_of, AreSpots, HoldsRows}
 use Rattle.ply_body.specs.Readings.{with_faces, with_spots, coming_told, input_told, opened, IsRefusal, Reading}
 use Rattle.puzzle_cli.specs.declared.reading.InputMesh.{InputMesh}
 use Rattle.puzzle_cli.specs.declared.status.Status.{Status}
 use Rattle.puzzle_cli.specs.declared.status.Status.TheVariants.{WorkDamage}
-use Rattle.puzzle_cli.specs.Finest.{digits_by, digits_of, IsMeshOf}
+use Rattle.puzzle_cli.specs.Finest.{digits_by, digits_for, digits_of, input_for, IsMeshOf}
 use Rattle.puzzle_cli.specs.Parts.{IsLow}
 use Rattle.puzzle_cli.specs.Statuses.{head_status, body_status, status_of, IsRefused}
 use Rattle.puzzle_cli.specs.Readings.{AreWhole, IsRefusalTold}
@@ -179,14 +179,18 @@ refusal_of_head head.InputFault refused = refused
 refusal_of_head head.Memory refused = refused
 
 -- what an input means, by its header and what stands behind
-body_told : (bytes : Bytes) (h : Heading) → heading bytes ≡ Ok h
-    → default_input bytes ≡ refused_as InBody (body_of h (default_digits h.elements) (drop h.size bytes))
-body_told bytes h is =
+body_told : (chosen : Option ℕ) (bytes : Bytes) (h : Heading) → heading bytes ≡ Ok h
+    → input_for chosen bytes ≡ refused_as InBody (body_of h (digits_for chosen h.elements) (drop h.size bytes))
+body_told None bytes h is =
     ap (λ (r : Result Heading HeadFault). refused_as InHead r >>= (λ (k : Heading). refused_as InBody (body_of k (default_digits k.elements) (drop k.size bytes)))) is
+body_told (Some digits) bytes h is =
+    ap (λ (r : Result Heading HeadFault). refused_as InHead r >>= (λ (k : Heading). refused_as InBody (body_of k digits (drop k.size bytes)))) is
 
-pub head_told : (bytes : Bytes) (f : HeadFault) → heading bytes ≡ Err f → default_input bytes ≡ Err (InHead f)
-head_told bytes f is =
+pub head_told : (chosen : Option ℕ) (bytes : Bytes) (f : HeadFault) → heading bytes ≡ Err f → input_for chosen bytes ≡ Err (InHead f)
+head_told None bytes f is =
     ap (λ (r : Result Heading HeadFault). refused_as InHead r >>= (λ (k : Heading). refused_as InBody (body_of k (default_digits k.elements) (drop k.size bytes)))) is
+head_told (Some digits) bytes f is =
+    ap (λ (r : Result Heading HeadFault). refused_as InHead r >>= (λ (k : Heading). refused_as InBody (body_of k digits (drop k.size bytes)))) is
 
 pub same_status : {X : Type 0} (given status status' : Status) → ◌≡◌ {A = Result X Status} (Err given) (Err status) → given ≡ status' → status ≡ status'
 same_status given status status' same is = cc
@@ -208,16 +212,16 @@ damage_of_body body.WorkFault offset e = cc
 damage_of_body (body.WorkDamage n) offset e = cc
 
 -- what an input means, by what a reader that was opened behind its header still has to read
-pub default_by : (head : HeadState) (reading : Reading) (digits : ℕ) (told left : Option Bytes) (bytes : Bytes) (r : Result Input BodyFault)
-    → (size : ℕ) × IsHeadOf head size told (ahead head.held left) → digits ≡ default_digits head.elements → reading ≡ opened head digits
-    → told ≡ Some bytes → ForSome (input_told reading left) (λ x. x ≡ r) → default_input bytes ≡ refused_as InBody r
-default_by head reading digits told left bytes r read scale is tells means =
+pub input_by : (chosen : Option ℕ) (head : HeadState) (reading : Reading) (digits : ℕ) (told left : Option Bytes) (bytes : Bytes) (r : Result Input BodyFault)
+    → (size : ℕ) × IsHeadOf head size told (ahead head.held left) → digits ≡ digits_for chosen head.elements → reading ≡ opened head digits
+    → told ≡ Some bytes → ForSome (input_told reading left) (λ x. x ≡ r) → input_for chosen bytes ≡ refused_as InBody r
+input_by chosen head reading digits told left bytes r read scale is tells means =
     let h : Heading = record { format = head.format; elements = head.elements; size = read.0 } in
     let rest : ahead head.held left ≡ Some (drop read.0 bytes) = read.1.rest ∙ ap (option_map (drop read.0)) tells in
     let known : input_told (opened head digits) left ≡ Some (body_of h digits (drop read.0 bytes)) =
     ap (λ (o : Option Bytes). option_map (elements (setting_of head.elements digits) 0 head.elements no_input) (option_map (items_of head.format MOST_BYTES) o)) rest in
     let meant : body_of h digits (drop read.0 bytes) ≡ r = means _ (ap (λ (x : Reading). input_told x left) is ∙ known) in
-    body_told bytes h (read.1.heading bytes tells) ∙ ap (λ (d : ℕ). refused_as InBody (body_of h d (drop read.0 bytes))) (sym scale)
+    body_told chosen bytes h (read.1.heading bytes tells) ∙ ap (λ (d : ℕ). refused_as InBody (body_of h d (drop read.0 bytes))) (sym scale)
     ∙ ap (refused_as InBody) meant
 
 pub spots_refused : (o : Option (Result Input BodyFault)) (c : Coming) (rs : List Row) (f : BodyFault) → o ≡ option_map (with_spots rs) c
@@ -241,12 +245,13 @@ one_meaning : (i j : Input) → ◌≡◌ {A = Result Input Refusal} (Ok i) (Ok 
 one_meaning i j same = cc
 
 -- the mesh of the rows and faces that were read is that of those that the input means
-pub mesh_read : (mesh : InputMesh) (input : Input) (bytes : Bytes) (rows : List Row) (faces : List Face) → default_input bytes ≡ Ok input
-    → default_input bytes ≡ Ok (record { rows = rows; faces = faces }) → mesh.digits ≡ digits_of bytes → mesh.low ≡ coordinates (low_of input.rows)
+pub mesh_read : (chosen : Option ℕ) (mesh : InputMesh) (input : Input) (bytes : Bytes) (rows : List Row) (faces : List Face) → input_for chosen bytes ≡ Ok input
+    → input_for chosen bytes ≡ Ok (record { rows = rows; faces = faces }) → mesh.l ≡ level_bound input.rows → mesh.digits ≡ digits_of chosen bytes → mesh.low ≡ coordinates (low_of input.rows)
     → mesh.tris.items ≡ whole_of (points_of input.rows) input.faces → mesh.dropped ≡ broken_of (points_of input.rows) input.faces
-    → IsMeshOf mesh (digits_of bytes) rows faces
-mesh_read mesh input bytes rows faces is means digits low tris dropped =
+    → IsMeshOf mesh (digits_of chosen bytes) rows faces
+mesh_read chosen mesh input bytes rows faces is means l digits low tris dropped =
     let same : input ≡ record { rows = rows; faces = faces } = one_meaning input (record { rows = rows; faces = faces }) (sym is ∙ means) in record {
+      l = l ∙ ap (λ (i : Input). level_bound i.rows) same;
       digits = digits;
       low = low ∙ ap (λ (i : Input). coordinates (low_of i.rows)) same;
       tris = tris ∙ ap (λ (i : Input). mesh_of i.rows i.faces) same;
@@ -258,9 +263,8 @@ some_same e = cc
 
 -- what is told stays told
 no_less : (head : HeadState) (reading : Reading) (digits : ℕ) (told left : Option Bytes) (bytes : Bytes)
-    → (size : ℕ) × IsHeadOf head size told (ahead head.held left) → digits ≡ default_digits head.elements
-    → reading ≡ opened head digits → told ≡ Some bytes → input_told reading left ≡ None → ⊥
-no_less head reading digits told left bytes read scale is tells none =
+    → (size : ℕ) × IsHeadOf head size told (ahead head.held left) → reading ≡ opened head digits → told ≡ Some bytes → input_told reading left ≡ None → ⊥
+no_less head reading digits told left bytes read is tells none =
     let rest : ahead head.held left ≡ Some (drop read.0 bytes) = read.1.rest ∙ ap (option_map (drop read.0)) tells in
     let h : Heading = record { format = head.format; elements = head.elements; size = read.0 } in
     let known : input_told (opened head digits) left ≡ Some (body_of h digits (drop read.0 bytes)) =
@@ -269,16 +273,16 @@ no_less head reading digits told left bytes read scale is tells none =
     cc
 
 -- an input is refused where the triangles are that were to come
-pub refused_by : (head : HeadState) (reading : Reading) (digits : ℕ) (told left : Option Bytes) (bytes : Bytes) (c : Coming) (rs : List Row)
-    (status status' : Status) → (size : ℕ) × IsHeadOf head size told (ahead head.held left) → digits ≡ default_digits head.elements
+pub refused_by : (chosen : Option ℕ) (head : HeadState) (reading : Reading) (digits : ℕ) (told left : Option Bytes) (bytes : Bytes) (c : Coming) (rs : List Row)
+    (status status' : Status) → (size : ℕ) × IsHeadOf head size told (ahead head.held left) → digits ≡ digits_for chosen head.elements
     → reading ≡ opened head digits → told ≡ Some bytes → input_told reading left ≡ option_map (with_spots rs) c
-    → ForSome c (λ r. IsRefusalTold r status) → status' ≡ status → (x : Refusal) × (default_input bytes ≡ Err x) × (status' ≡ status_of x)
-refused_by head reading digits told left bytes None rs status status' read scale is tells first last same =
-    absurd (no_less head reading digits told left bytes read scale is tells first)
-refused_by head reading digits told left bytes (Some r) rs status status' read scale is tells first last same =
+    → ForSome c (λ r. IsRefusalTold r status) → status' ≡ status → (x : Refusal) × (input_for chosen bytes ≡ Err x) × (status' ≡ status_of x)
+refused_by chosen head reading digits told left bytes None rs status status' read scale is tells first last same =
+    absurd (no_less head reading digits told left bytes read is tells first)
+refused_by chosen head reading digits told left bytes (Some r) rs status status' read scale is tells first last same =
     let why = last r refl in (
       InBody why.0,
-      default_by head reading digits told left bytes (Err why.0) read scale is tells
+      input_by chosen head reading digits told left bytes (Err why.0) read scale is tells
           (spots_refused (input_told reading left) (Some r) rs why.0 first (λ x e. sym (some_same e) ∙ why.1)),
       same ∙ why.2,
     )

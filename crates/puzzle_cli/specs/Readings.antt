@@ -1,5 +1,5 @@
 -- What was read of an input.
-use Rattle.std.specs.Prelude.{◌≡◌, ℕ, List, Option, Result, Ok, Err}
+use Rattle.std.specs.Prelude.{◌≡◌, ◌≤◌, ◌^◌, ℕ, List, length, All, Option, Result, Ok, Err}
 use Rattle.std.specs.Option.{ForSome}
 use Rattle.tpz_base.specs.Meshes.{Mesh}
 use Rattle.tpz_base.specs.Cubes.{Row}
@@ -9,7 +9,10 @@ use Rattle.ply_body.specs.declared.frame.Frame.{Frame}
 use Rattle.ply_body.specs.Inputs.{whole_of, broken_of}
 use Rattle.ply_body.specs.Spots.{spots_of, AreSpots, HoldsRows}
 use Rattle.ply_body.specs.Readings.{Reading, coming_told}
+use Rattle.tri_stream.specs.Lists.{IsHeld}
+use Rattle.puzzle_cli.specs.declared.reading.InputMesh.{InputMesh}
 use Rattle.puzzle_cli.specs.declared.status.Status.{Status}
+use Rattle.puzzle_cli.specs.Parts.{IsLow}
 use Rattle.puzzle_cli.specs.Statuses.{body_status}
 
 -- The whole triangles among those of some faces, by the points that are held, and how many aren't whole.
@@ -26,3 +29,11 @@ pub record TrisTold (old new : Reading) (told : Option Bytes) (held : Option Byt
 -- what is to come is refused, and this is the status of the refusal
 abbrev pub IsRefusalTold : {X : Type 0} → Result X BodyFault → Status → Type 0
 IsRefusalTold result status = (f : BodyFault) × (result ≡ Err f) × (status ≡ body_status f)
+
+-- The bounds of a mesh that was read, whatever source and blob tell.
+pub record IsSmallMesh (mesh : InputMesh) : Type 0 where
+  pub level : (1 ≤ mesh.l) × (mesh.l ≤ 30)
+  pub end : mesh.end ≤ 2 ^ 62
+  pub low : IsLow mesh.low
+  pub plain : All (IsHeld mesh.l) mesh.tris.items
+  pub few : length mesh.tris.items ≤ 2147483648

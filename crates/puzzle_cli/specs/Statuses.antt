@@ -7,7 +7,7 @@ use Rattle.ply_body.specs.declared.fault.BodyFault.{BodyFault}
 use Rattle.ply_body.specs.declared.fault.BodyFault.TheVariants as body
 use Rattle.ply_body.specs.Inputs.{Refusal, InHead, InBody}
 use Rattle.puzzle_cli.specs.declared.status.Status.{Status}
-use Rattle.puzzle_cli.specs.declared.status.Status.TheVariants.{Ok, Usage, BadInput, Extent, InputFault, WorkFault, WorkDamage, OutFault, Memory}
+use Rattle.puzzle_cli.specs.declared.status.Status.TheVariants.{Ok, Usage, BadInput, Extent, InputFault, WorkFault, WorkDamage, TooManyRecords, OutFault, Memory}
 use Rattle.puzzle_cli.specs.declared.status.InputKind.{InputKind}
 use Rattle.puzzle_cli.specs.declared.status.InputKind.TheVariants as kind
 use Rattle.puzzle_cli.specs.declared.status.Place.{Place}
@@ -23,6 +23,7 @@ code_of WorkFault = 8
 code_of (WorkDamage offset) = 9
 code_of OutFault = 14
 code_of Memory = 16
+code_of TooManyRecords = 22
 
 -- the name of a refusal; that of an index has the index behind it
 abbrev pub kind_text : InputKind → List ℕ
@@ -56,6 +57,7 @@ line_of WorkFault = codes "tpz: work file failed"
 line_of (WorkDamage offset) = codes "tpz: work file damaged at " ++ decimal offset
 line_of OutFault = codes "tpz: output failed"
 line_of Memory = codes "tpz: out of memory"
+line_of TooManyRecords = codes "tpz: too many records"
 
 -- The status of each fault of the header and of the rows.
 abbrev pub head_status : HeadFault → Status
@@ -98,4 +100,5 @@ abbrev pub IsUnread : Status → Type 0
 IsUnread Ok = ⊥
 IsUnread Usage = ⊥
 IsUnread OutFault = ⊥
+IsUnread TooManyRecords = ⊥
 IsUnread _ = Unit {0}

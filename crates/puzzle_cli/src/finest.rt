@@ -1,19 +1,22 @@
 // The command `finest`.
-ghost use Rattle.std.specs.Prelude.{◌≡◌, ◌≤◌, ◌⊎◌, ℕ, List, [], Ok, Err, None, OnOk, IfOk, IsErrOf, string_bytes};
+ghost use Rattle.std.specs.Prelude.{◌≡◌, ◌≤◌, ◌<◌, ◌⊎◌, ℕ, List, [], Ok, Err, None, length, OnOk, IfOk, IfSome, IsErrOf, string_bytes};
 ghost use Rattle.std.specs.Option.{ForSome};
 ghost use Rattle.tpz_io.specs.Causes.{Rose};
 ghost use Rattle.tpz_io.specs.Writes.{Wrote, WrotePrefix};
 ghost use Rattle.tpz_base.specs.Cubes.{Row};
 ghost use Rattle.tpz_base.specs.Texts.{Face};
-ghost use Rattle.ply_body.specs.Inputs.{Refusal, default_input};
-ghost use Rattle.puzzle_cli.specs.Finest.{digits_of, finest_items, finest_note, items_of, IsAccepted};
+ghost use Rattle.ply_body.specs.Inputs.{Refusal};
+ghost use Rattle.diamond_graph.specs.Adding.{most_centres};
+ghost use Rattle.puzzle_cli.specs.Finest.{digits_of, finest_items, finest_note, finest_split, input_for, items_of, IsAccepted};
+ghost use Rattle.puzzle_cli.specs.Numbering.{numbered_mesh, IsNumbering};
 ghost use Rattle.puzzle_cli.specs.Parts.{IsLow};
 ghost use Rattle.puzzle_cli.specs.Statuses.{status_of, IsRefused};
 
 use crate::Status;
-use crate::numbering::number_by_roots;
+use crate::numbering::Numbered;
 use crate::part_text::{WriteFault, write_part};
-use crate::reading::{InputMesh, read_mesh};
+use crate::reading::{Facts, read_mesh};
+use crate::splitting::number;
 use std::alloc::{AllocError, Global};
 use tpz_io::{Blob, Out, Source};
 
@@ -29,36 +32,48 @@ fn note_line(
     format!(in alloc; "finest tris {tris} dropped {dropped} vertices {vertices}")
 }
 
-// Writes the part and the note of what was read.
-fn export<O: Out>(alloc: Global, input: InputMesh, out: &mut O) -> Result<(), WriteFault>
-    requires { IsLow input.low }
-    ensures ok { OnOk result (Wrote (items_of input) (O.parts out.old) (O.parts out.new) (O.notes out.old) (O.notes out.new)) }
-    ensures front { WrotePrefix (items_of input) (O.parts out.old) (O.parts out.new) (O.notes out.old) (O.notes out.new) }
+// Writes the part and the note of a mesh.
+fn export<O: Out>(
+    alloc: Global,
+    mesh: &Numbered,
+    facts: Facts,
+    out: &mut O,
+) -> Result<(), WriteFault>
+    requires low { IsLow facts.low }
+    requires numbering { IsNumbering mesh.now }
+    ensures ok { OnOk result (Wrote (items_of facts (numbered_mesh mesh.now)) (O.parts out.old) (O.parts out.new) (O.notes out.old) (O.notes out.new)) }
+    ensures front { WrotePrefix (items_of facts (numbered_mesh mesh.now)) (O.parts out.old) (O.parts out.new) (O.notes out.old) (O.notes out.new) }
     ensures later { O.faults out.old ≤ O.faults out.new }
     ensures out { IsErrOf result WriteFault.OutFault → Rose (O.faults out.old) (O.faults out.new) }
 {
-    let count = input.tris.as_slice().len();
-    let mesh = number_by_roots(alloc, input.tris)?;
     let vertices = mesh.vertices.as_slice();
-    let line = note_line(alloc, count, input.dropped, vertices.len())?;
-    write_part(alloc, out, &mesh, input.digits, &input.low)?;
+    let line = note_line(alloc, facts.tris, facts.dropped, vertices.len())?;
+    write_part(alloc, out, mesh, facts.digits, &facts.low)?;
     out.note(line.as_bytes())?;
     Ok(())
 }
 
-/// Reads an input, and writes its mesh with the triangles root by root.
+/// Reads an input, and writes its mesh in the order of its finest cut. Without digits those are taken that the types of the
+/// coordinates set; without a cap no diamond is split.
 pub fn finest<I: Source, W: Blob, O: Out>(
     alloc: Global,
+    digits: Option<u8>,
+    cap: Option<u32>,
     input: &mut I,
     work: &mut W,
     out: &mut O,
 ) -> Status
+    requires { IfSome digits (λ d. d ≤ 9) }
     ensures asked { ¬ (result ≡ Status.Usage) }
     ensures ok { result ≡ Status.Ok → ForSome (I.left input.old) (λ bytes. ForSome (W.held work.old) (λ _. (rows : List Row) (faces : List Face)
-        → default_input bytes ≡ Ok (record { rows = rows; faces = faces })
-        → Wrote (finest_items (digits_of bytes) rows faces) (O.parts out.old) (O.parts out.new) (O.notes out.old) (O.notes out.new))) }
-    ensures refused { IsRefused result → ForSome (I.left input.old) (λ bytes. (r : Refusal) × (default_input bytes ≡ Err r) × (result ≡ status_of r)) }
-    ensures accepted { (result ≡ Status.Ok) ⊎ (result ≡ Status.OutFault) → ForSome (I.left input.old) IsAccepted }
+        → input_for digits bytes ≡ Ok (record { rows = rows; faces = faces })
+        → Wrote (finest_items cap (digits_of digits bytes) rows faces) (O.parts out.old) (O.parts out.new) (O.notes out.old) (O.notes out.new))) }
+    ensures refused { IsRefused result → ForSome (I.left input.old) (λ bytes. (r : Refusal) × (input_for digits bytes ≡ Err r) × (result ≡ status_of r)) }
+    ensures accepted { (result ≡ Status.Ok) ⊎ ((result ≡ Status.OutFault) ⊎ (result ≡ Status.TooManyRecords)) → ForSome (I.left input.old) (IsAccepted digits) }
+    ensures few { (result ≡ Status.Ok) ⊎ (result ≡ Status.OutFault) → ForSome (I.left input.old) (λ bytes. ForSome (W.held work.old) (λ _. (rows : List Row) (faces : List Face)
+        → input_for digits bytes ≡ Ok (record { rows = rows; faces = faces }) → length (finest_split cap rows faces) ≤ most_centres)) }
+    ensures too_many { result ≡ Status.TooManyRecords → ForSome (I.left input.old) (λ bytes. ForSome (W.held work.old) (λ _. (rows : List Row) (faces : List Face)
+        → input_for digits bytes ≡ Ok (record { rows = rows; faces = faces }) → most_centres < length (finest_split cap rows faces))) }
     ensures input_fault { result ≡ Status.InputFault → Rose (I.faults input.old) (I.faults input.new) }
     ensures work_fault { result ≡ Status.WorkFault → Rose (W.faults work.old) (W.faults work.new) }
     ensures work_damage { (offset : ℕ) → result ≡ Status.WorkDamage offset → W.held work.old ≡ None }
@@ -67,18 +82,23 @@ pub fn finest<I: Source, W: Blob, O: Out>(
     ensures work_later { W.faults work.old ≤ W.faults work.new }
     ensures out_later { O.faults out.old ≤ O.faults out.new }
     ensures front { ForSome (I.left input.old) (λ bytes. ForSome (W.held work.old) (λ _. (rows : List Row) (faces : List Face)
-        → default_input bytes ≡ Ok (record { rows = rows; faces = faces })
-        → WrotePrefix (finest_items (digits_of bytes) rows faces) (O.parts out.old) (O.parts out.new) (O.notes out.old) (O.notes out.new))) }
-    ensures unaccepted { ForSome (I.left input.old) (λ bytes. ¬ IsAccepted bytes
+        → input_for digits bytes ≡ Ok (record { rows = rows; faces = faces })
+        → WrotePrefix (finest_items cap (digits_of digits bytes) rows faces) (O.parts out.old) (O.parts out.new) (O.notes out.old) (O.notes out.new))) }
+    ensures unaccepted { ForSome (I.left input.old) (λ bytes. ¬ IsAccepted digits bytes
         → Wrote [] (O.parts out.old) (O.parts out.new) (O.notes out.old) (O.notes out.new)) }
     ensures unread { ¬ (result ≡ Status.Ok) → ¬ (result ≡ Status.OutFault) → ¬ (result ≡ Status.Memory)
         → Wrote [] (O.parts out.old) (O.parts out.new) (O.notes out.old) (O.notes out.new) }
 {
-    let mesh = match read_mesh(alloc, input, work) {
+    let mesh = match read_mesh(alloc, digits, input, work) {
         Ok(mesh) => mesh,
         Err(status) => return status,
     };
-    match export(alloc, mesh, out) {
+    let facts = mesh.facts();
+    let numbered = match number(alloc, mesh, cap, work) {
+        Ok(numbered) => numbered,
+        Err(status) => return status,
+    };
+    match export(alloc, &numbered, facts, out) {
         Ok(()) => Status::Ok,
         Err(WriteFault::OutFault) => Status::OutFault,
         Err(WriteFault::Memory) => Status::Memory,

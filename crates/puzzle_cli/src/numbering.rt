@@ -6,7 +6,7 @@ ghost use Rattle.tpz_base.specs.Roots.{root_part, mesh_by_roots};
 ghost use Rattle.tpz_base.specs.Texts.{number_in};
 ghost use Rattle.puzzle_cli.specs.Numbering.{numbered_mesh, is_outside, IsNumbering};
 
-use crate::root_order::root_place;
+use assign::root_of;
 use indexmap::IndexSet;
 use std::alloc::{AllocError, Global};
 use tpz_base::{Point, Tri};
@@ -54,8 +54,8 @@ impl Numbered {
         Ok(Numbered { vertices, faces })
     }
 
-    // Adds a triangle at the end of the mesh.
-    fn add(&mut self, t: &Tri) -> Result<(), AllocError>
+    /// Adds a triangle at the end of the mesh.
+    pub fn add(&mut self, t: &Tri) -> Result<(), AllocError>
         requires { IsNumbering self.old }
         ensures mesh { OnOk result (numbered_mesh self.new ≡ numbered_mesh self.old ++ t.now ∷ []) }
         ensures numbering { OnOk result (IsNumbering self.new) }
@@ -74,7 +74,7 @@ impl Numbered {
         ensures mesh { OnOk result (numbered_mesh self.new ≡ numbered_mesh self.old ++ root_part (t.now ∷ []) place) }
         ensures numbering { OnOk result (IsNumbering self.new) }
     {
-        if root_place(t) != place {
+        if root_of(t) != place {
             return Ok(());
         }
         self.add(t)
@@ -98,7 +98,7 @@ impl Numbered {
 fn stays(t: &Tri, place: u8) -> bool
     ensures { result ≡ is_outside place t.now }
 {
-    root_place(t) != place
+    root_of(t) != place
 }
 
 // Lets the triangles of a root go, and their memory with them.

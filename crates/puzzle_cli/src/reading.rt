@@ -1,17 +1,18 @@
 // The mesh of an input, read through the work file.
-ghost use Rattle.std.specs.Prelude.{◌≡◌, ◌≤◌, ℕ, List, IfOk, IsOk, Ok, Err, None, Some};
+ghost use Rattle.std.specs.Prelude.{◌≡◌, ◌≤◌, ◌^◌, ◌⊎◌, ℕ, List, All, length, is_some, IfOk, IfSome, IsOk, Ok, Err, None, Some};
 ghost use Rattle.std.specs.Option.{ForSome};
 ghost use Rattle.tpz_io.specs.Causes.{Rose};
 ghost use Rattle.tpz_base.specs.Cubes.{Row};
 ghost use Rattle.tpz_base.specs.Texts.{Face};
 ghost use Rattle.ply_body.specs.Bodies.{Input};
-ghost use Rattle.ply_body.specs.Inputs.{Refusal, broken_of, default_input, points_of, whole_of};
+ghost use Rattle.ply_body.specs.Inputs.{Refusal, broken_of, points_of, whole_of};
 ghost use Rattle.ply_body.specs.Spots.{HoldsPoints, HoldsRows, IsFrameOf};
 ghost use Rattle.ply_body.specs.Readings.{coming_told};
+ghost use Rattle.tri_stream.specs.Lists.{IsHeld};
 ghost use Rattle.puzzle_cli.specs.declared.status.Status.{Status};
-ghost use Rattle.puzzle_cli.specs.Finest.{digits_of, IsAccepted, IsMeshOf};
+ghost use Rattle.puzzle_cli.specs.Finest.{digits_of, input_for, IsAccepted, IsMeshOf};
 ghost use Rattle.puzzle_cli.specs.Parts.{IsLow};
-ghost use Rattle.puzzle_cli.specs.Readings.{IsRefusalTold, TrisTold};
+ghost use Rattle.puzzle_cli.specs.Readings.{IsRefusalTold, IsSmallMesh, TrisTold};
 ghost use Rattle.puzzle_cli.specs.Statuses.{status_of, IsRefused, IsUnread};
 
 use crate::Status;
@@ -25,14 +26,45 @@ use tpz_io::{Blob, Source};
 /// What is read of an input, in whole scaled units.
 #[derive(Drop)]
 pub struct InputMesh {
+    /// The cube has 2^l units.
+    pub l: u8,
+    /// Where the points end in the work file, in bytes.
+    pub end: u64,
     /// Coordinates are scaled by 10 to this power.
     pub digits: u8,
     /// The least coordinates of all rows, on x, y and z; 0 where there are no rows.
     pub low: [i64; 3],
-    /// The whole triangles in the order of the faces, less `low`.
+    /// The whole triangles in the order of the faces, less `low`. They lie in the cube.
     pub tris: Vec<Tri>,
     /// How many triangles have two corners at one place.
     pub dropped: u64,
+}
+
+/// What a part and a note tell of an input beside its mesh.
+#[derive(Clone, Copy)]
+pub struct Facts {
+    /// Coordinates are scaled by 10 to this power.
+    pub digits: u8,
+    /// The least coordinates, on x, y and z.
+    pub low: [i64; 3],
+    /// How many triangles are whole.
+    pub tris: usize,
+    /// How many have two corners at one place.
+    pub dropped: u64,
+}
+
+impl InputMesh {
+    /// What is told of the mesh.
+    pub fn facts(&self) -> Facts
+        ensures { result ≡ record { digits = self.now.digits; low = self.now.low; tris = length self.now.tris.items; dropped = self.now.dropped } }
+    {
+        Facts {
+            digits: self.digits,
+            low: self.low,
+            tris: self.tris.as_slice().len(),
+            dropped: self.dropped,
+        }
+    }
 }
 
 // Takes all triangles that are still to come.
@@ -56,6 +88,8 @@ fn read_tris<I: Source, W: Blob>(
     ensures input_later { I.faults input.old ≤ I.faults input.new }
     ensures work_later { W.faults work.old ≤ W.faults work.new }
     ensures held { W.held work.new ≡ W.held work.old }
+    ensures plain { IfOk result (λ tris. All (IsHeld frame.now.l) tris.items) }
+    ensures few { IfOk result (λ tris. length tris.items ≤ 2147483648) }
 {
     let mut tris = Vec::new(alloc);
     'tris: loop {
@@ -70,30 +104,34 @@ fn read_tris<I: Source, W: Blob>(
     }
 }
 
-/// Reads an input. Its points go to the work file, whose bytes are overwritten.
+/// Reads an input with these digits, or with those that the types of its coordinates set. Its points go to the work file,
+/// whose bytes are overwritten.
 pub fn read_mesh<I: Source, W: Blob>(
     alloc: Global,
+    digits: Option<u8>,
     input: &mut I,
     work: &mut W,
 ) -> Result<InputMesh, Status>
+    requires { IfSome digits (λ d. d ≤ 9) }
     ensures mesh { IfOk result (λ mesh. ForSome (I.left input.old) (λ bytes. ForSome (W.held work.old) (λ _. (rows : List Row) (faces : List Face)
-        → default_input bytes ≡ Ok (record { rows = rows; faces = faces }) → IsMeshOf mesh (digits_of bytes) rows faces))) }
-    ensures accepted { IsOk result → ForSome (I.left input.old) IsAccepted }
-    ensures low { IfOk result (λ mesh. IsLow mesh.low) }
+        → input_for digits bytes ≡ Ok (record { rows = rows; faces = faces }) → IsMeshOf mesh (digits_of digits bytes) rows faces))) }
+    ensures accepted { IsOk result → ForSome (I.left input.old) (IsAccepted digits) }
+    ensures small { IfOk result IsSmallMesh }
     ensures refused { (status : Status) → result ≡ Err status → IsRefused status
-        → ForSome (I.left input.old) (λ bytes. (r : Refusal) × (default_input bytes ≡ Err r) × (status ≡ status_of r)) }
+        → ForSome (I.left input.old) (λ bytes. (r : Refusal) × (input_for digits bytes ≡ Err r) × (status ≡ status_of r)) }
     ensures unread { (status : Status) → result ≡ Err status → IsUnread status }
     ensures input { (status : Status) → result ≡ Err status → status ≡ Status.InputFault → Rose (I.faults input.old) (I.faults input.new) }
     ensures work { (status : Status) → result ≡ Err status → status ≡ Status.WorkFault → Rose (W.faults work.old) (W.faults work.new) }
     ensures damage { (status : Status) → result ≡ Err status → (offset : ℕ) → status ≡ Status.WorkDamage offset → W.held work.old ≡ None }
     ensures input_later { I.faults input.old ≤ I.faults input.new }
     ensures work_later { W.faults work.old ≤ W.faults work.new }
+    ensures telling { is_some (W.held work.new) ≡ is_some (W.held work.old) }
 {
     let head = match read_head(alloc, input) {
         Ok(head) => head,
         Err(fault) => return Err(status_of_head(fault)),
     };
-    let digits = head.default_digits();
+    let digits = digits.unwrap_or(head.default_digits());
     let mut faces = Faces::open(alloc, head, digits)?;
     let frame = match faces.load_points(input, work) {
         Ok(frame) => frame,
@@ -104,6 +142,8 @@ pub fn read_mesh<I: Source, W: Blob>(
         Err(status) => return Err(status),
     };
     Ok(InputMesh {
+        l: frame.l,
+        end: frame.end,
         digits,
         low: frame.low,
         tris,

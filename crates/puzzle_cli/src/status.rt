@@ -7,6 +7,7 @@ ghost use Rattle.puzzle_cli.specs.Statuses.{body_status, head_status, kind_text,
 use ply_body::BodyFault;
 use ply_head::HeadFault;
 use std::alloc::{AllocError, AllocFailed, Global};
+use tri_stream::StreamFault;
 
 /// Why an input is refused, by the name of the refusal.
 #[derive(Clone, Copy, Debug, PartialEq, Eq)]
@@ -51,6 +52,8 @@ pub enum Status {
     WorkFault,
     /// The work file gave back what was never written to it, at this offset in bytes.
     WorkDamage { offset: u64 },
+    /// More than 67,108,864 diamonds would be split.
+    TooManyRecords,
     /// A call of the output failed.
     OutFault,
     /// Memory ran out.
@@ -74,6 +77,7 @@ impl Status {
             Status::WorkDamage { .. } => 9,
             Status::OutFault => 14,
             Status::Memory => 16,
+            Status::TooManyRecords => 22,
         }
     }
 
@@ -102,6 +106,7 @@ impl Status {
             ),
             Status::OutFault => String::from_str(alloc, "tpz: output failed"),
             Status::Memory => String::from_str(alloc, "tpz: out of memory"),
+            Status::TooManyRecords => String::from_str(alloc, "tpz: too many records"),
         }
     }
 }
@@ -111,6 +116,16 @@ impl From<AllocError> for Status {
 
     fn from(_: AllocError) -> Self {
         Status::Memory
+    }
+}
+
+impl From<StreamFault> for Status {
+    ghost from_gives = { λ _ e. e ≡ Memory };
+
+    fn from(fault: StreamFault) -> Self {
+        match fault {
+            StreamFault::Memory => Status::Memory,
+        }
     }
 }
 

@@ -9,7 +9,7 @@ use Rattle.std.proofs.lemmas.List.Elements.{All-push}
 use Rattle.std.proofs.lemmas.List.Sums.{get_or-le-sum_by}
 use Rattle.tpz_base.specs.declared.shape.Tri.{Tri}
 use Rattle.tpz_base.specs.Meshes.{Mesh, is_whole}
-use Rattle.tri_stream.specs.Cubes.{IsTriInCube}
+use Rattle.tpz_base.specs.Cubes.{IsTriInCube}
 use Rattle.tpz_io.specs.Told.{Changes}
 use Rattle.tri_stream.specs.declared.names.StreamId.{StreamId}
 use Rattle.tri_stream.specs.declared.names.Cursor.{Cursor}

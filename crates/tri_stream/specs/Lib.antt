@@ -1,4 +1,3 @@
-pub mod Cubes
 pub mod Lists
 pub mod Slots
 pub mod Streams

@@ -5,7 +5,7 @@ use Rattle.std.specs.List.{slice_index_or}
 use Rattle.std.specs.declared.option.Option.TheVariants.{None, Some}
 use Rattle.tpz_base.specs.declared.shape.Tri.{Tri}
 use Rattle.tpz_base.specs.Meshes.{Mesh, is_whole}
-use Rattle.tri_stream.specs.Cubes.{IsTriInCube}
+use Rattle.tpz_base.specs.Cubes.{IsTriInCube}
 
 -- the list at a place; None where the place is free or there is none
 abbrev pub list_at : List (Option Mesh) → ℕ → Option Mesh

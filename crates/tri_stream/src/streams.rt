@@ -5,7 +5,7 @@ ghost use Rattle.tpz_base.specs.Meshes.{is_whole};
 ghost use Rattle.tri_stream.specs.declared.names.StreamId.{StreamId};
 ghost use Rattle.tri_stream.specs.declared.names.Cursor.{Cursor};
 ghost use Rattle.tri_stream.specs.declared.fault.StreamFault.{StreamFault};
-ghost use Rattle.tri_stream.specs.Cubes.{IsTriInCube};
+ghost use Rattle.tpz_base.specs.Cubes.{IsTriInCube};
 ghost use Rattle.tri_stream.specs.Streams.{count_of, list_of, told_list, total, Follows, IsLive, Keeps, LeavesAll, LeavesOthers, Stands};
 
 use crate::fault::StreamFault;

@@ -1,6 +1,10 @@
-use Rattle.std.proofs.Common.{refl, sym, ◌∙◌, ap, subst, arith, inl, inr, [], ◌∷◌, ◌++◌, Ok, Err}
+use Rattle.std.proofs.Common.{ℕ, ◌+◌, length, refl, sym, ◌∙◌, ap, subst, arith, inl, inr, [], ◌∷◌, ◌++◌, Ok, Err}
 use Rattle.puzzle_cli.specs.Statuses.{body_status, IsRefused}
+use Rattle.std.specs.Prelude.{All}
 use Rattle.std.specs.Option.{ForSome}
+use Rattle.std.proofs.lemmas.List.{length_push}
+use Rattle.std.proofs.lemmas.List.Elements.{All-nil, All-push}
+use Rattle.tri_stream.specs.Lists.{IsHeld}
 use Rattle.ply_body.specs.Spots.{HoldsPoints}
 use Rattle.puzzle_cli.specs.Readings.{AreWhole}
 use Rattle.puzzle_cli.proofs.ReadLemmas.{none_read, more_read, read_refused, read_all, none_whole, one_whole, no_more_whole, same_status, not_refused_yet, refusal_of_body, AllLost, OneGiven}
@@ -13,6 +17,8 @@ tris-init g c = record {
   few = omega (arith, c.requires.fresh.1, c.requires.fresh.2);
   points = c.requires.points;
   held = refl;
+  plain = subst (All (IsHeld c.args.frame.now.l)) (sym c.new-tris.ensures.items) (All-nil (IsHeld c.args.frame.now.l));
+  count = ap length c.new-tris.ensures.items ∙ sym c.requires.fresh.1;
   read = ([], none_read _, none_whole _ _ _ _ c.new-tris.ensures.items c.requires.fresh.2);
   input_later = omega arith;
   work_later = omega arith;
@@ -48,6 +54,9 @@ tris-preserved g c =
       few = c.next_tri.ensures.few;
       points = subst (λ h. ForSome h (HoldsPoints c.args.frame.now)) (sym c.next_tri.ensures.held) c.tris.invariant.points;
       held = c.next_tri.ensures.held ∙ c.tris.invariant.held;
+      plain = subst (All (IsHeld c.args.frame.now.l)) (sym c.in_ok-push.ensures.items) (All-push (IsHeld c.args.frame.now.l) c.tris.tris.items c.in-Some.t c.tris.invariant.plain
+      (record { whole = c.in-Ok.ensures.whole c.in-Some.t (ap Ok c.in-Some.is); cube = c.in-Ok.ensures.cube c.in-Some.t (ap Ok c.in-Some.is) }));
+      count = ap length c.in_ok-push.ensures.items ∙ length_push c.tris.tris.items c.in-Some.t ∙ ap (λ (n : ℕ). n + 1) c.tris.invariant.count ∙ sym given.2.given;
       read = (
         read.0 ++ (given.0 ++ given.1 ∷ []),
         more_read _ _ _ read.0 (given.0 ++ given.1 ∷ []) read.1 given.2.faces,

@@ -3,7 +3,7 @@ use Rattle.std.proofs.Common.{◌≡◌, ◌+◌, Some, None, length, arith, ref
 use Rattle.std.specs.Prelude.{slice_get, is_some, IfSome, IsTrue}
 use Rattle.tpz_base.specs.declared.shape.Tri.{Tri}
 use Rattle.tpz_base.specs.Meshes.{Mesh, is_whole}
-use Rattle.tri_stream.specs.Cubes.{IsTriInCube}
+use Rattle.tpz_base.specs.Cubes.{IsTriInCube}
 use Rattle.tri_stream.specs.Lists.{list_at, IsHeld}
 use Rattle.tri_stream.proofs.Words.{counted, given_cube, given_end, given_held, given_more, given_none, given_whole, gone_on, reading, reading_there, state, told_reads}
 use Rattle.tri_stream.proofs.streams.Streams.read.Goals as goal

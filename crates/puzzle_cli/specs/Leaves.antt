@@ -1,0 +1,50 @@
+-- The leaves of a mesh that is split, and the order in which its finest cut goes through them.
+use Rattle.std.specs.Prelude.{◌≡◌, ◌≢◌, ℕ, ◌+◌, false, List, [], ◌++◌, length, flat_map, is_some, Option, Some, None, if◌then◌else◌}
+use Rattle.std.specs.FinMap as map
+use Rattle.std.specs.Option.{ForSome, option_map}
+use Rattle.tpz_base.specs.declared.shape.Point.{Point}
+use Rattle.tpz_base.specs.Meshes.{Mesh}
+use Rattle.tpz_base.specs.Tetrahedra.{Tetrahedron, diamond}
+use Rattle.tpz_base.specs.Cuts.{has_diamond}
+use Rattle.tpz_base.specs.Texts.{Bytes}
+use Rattle.tetra_name.specs.declared.shape.Tet.{Tet}
+use Rattle.tetra_name.specs.Names.{tetrahedron_of}
+use Rattle.tri_stream.specs.declared.names.StreamId.{StreamId}
+use Rattle.tri_stream.specs.Streams.{StreamsState, count_of, told_list, total, IsLive, Stands}
+use Rattle.assign.specs.Names.{LeafTable}
+use Rattle.assign.specs.Leaf.{leaf_patch}
+
+-- what a tetrahedron adds to the mesh of the cut F: nothing where its own diamond is in F, else the triangles whose leaf it is
+unfoldable pub part_of : ℕ → List Point → Mesh → Tetrahedron → Mesh
+part_of L F M T = if has_diamond F (diamond T) then [] else leaf_patch L F M T
+
+-- Each entry of the table names a stream.
+abbrev pub AreLive : LeafTable → StreamsState → Type 0
+AreLive leaves s = (name : Tet) (id : StreamId) → map.get leaves name ≡ Some id → IsLive s id
+
+-- The streams in the table hold the triangles of the leaves, and a leaf without entry has none.
+pub record HasLeaves (L : ℕ) (F : List Point) (M : Mesh) (leaves : LeafTable) (s : StreamsState) (told : Option Bytes) : Type 0 where
+  pub entry : (name : Tet) (T : Tetrahedron) (id : StreamId) → tetrahedron_of L name ≡ Some T → map.get leaves name ≡ Some id
+      → told_list s told id ≡ Some (leaf_patch L F M T)
+  pub none : (name : Tet) (T : Tetrahedron) → tetrahedron_of L name ≡ Some T → has_diamond F (diamond T) ≡ false → map.get leaves name ≡ None
+      → leaf_patch L F M T ≡ []
+
+-- Where the table has the leaves of a mesh, the new mesh is the old one, and then what these tetrahedra add.
+pub record Adds (L : ℕ) (F : List Point) (leaves : LeafTable) (s : StreamsState) (told : Option Bytes) (ts : List Tetrahedron) (old new : Mesh) : Type 0 where
+  pub added : (M : Mesh) → HasLeaves L F M leaves s told → new ≡ old ++ flat_map (part_of L F M) ts
+
+-- Every stream is as before.
+pub record KeepsStreams (old new : StreamsState) (before now : Option Bytes) : Type 0 where
+  pub counts : (x : StreamId) → count_of new x ≡ count_of old x
+  pub lists : (x : StreamId) → told_list new now x ≡ told_list old before x
+  pub stands : ForSome now (Stands new)
+
+-- These triangles are at the end of one stream, and the cube is as before. The bytes are told as before or not.
+pub record Fills (id : StreamId) (tris : Mesh) (old new : StreamsState) (before now : Option Bytes) : Type 0 where
+  pub list : told_list new now id ≡ option_map (λ M. M ++ tris) (told_list old before id)
+  pub count : count_of new id ≡ option_map (λ n. n + length tris) (count_of old id)
+  pub others : (x : StreamId) → x ≢ id → count_of new x ≡ count_of old x
+  pub total : total new ≡ total old + length tris
+  pub l : new.l ≡ old.l
+  pub stands : ForSome now (Stands new)
+  pub telling : is_some now ≡ is_some before

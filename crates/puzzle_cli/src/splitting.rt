@@ -1,0 +1,81 @@
+// The mesh of an input in the order of its finest cut.
+ghost use Rattle.std.specs.Prelude.{◌≡◌, ◌≢◌, ◌≤◌, ◌<◌, ◌+◌, ◌^◌, ◌++◌, ◌⊎◌, ℕ, List, All, Err, None, Some, length, is_some, IfOk, IfErr, OnOk};
+ghost use Rattle.std.specs.Option.{ForSome, option_map};
+ghost use Rattle.tpz_base.specs.Texts.{Bytes};
+ghost use Rattle.diamond_graph.specs.Adding.{most_centres};
+ghost use Rattle.tri_stream.specs.Lists.{IsHeld};
+ghost use Rattle.tri_stream.specs.declared.names.StreamId.{StreamId};
+ghost use Rattle.tri_stream.specs.Streams.{count_of, told_list, total, IsLive, Stands};
+ghost use Rattle.puzzle_cli.specs.declared.status.Status.{Status};
+ghost use Rattle.puzzle_cli.specs.Finest.{mesh_for, split_for};
+ghost use Rattle.puzzle_cli.specs.Numbering.{numbered_mesh, IsNumbering};
+ghost use Rattle.puzzle_cli.specs.Readings.{IsSmallMesh};
+ghost use Rattle.puzzle_cli.specs.Leaves.{Fills};
+
+use crate::Status;
+use crate::cut_order::number_leaves;
+use crate::numbering::{Numbered, number_by_roots};
+use crate::reading::InputMesh;
+use std::alloc::Global;
+use tpz_base::Tri;
+use tpz_io::Blob;
+use tri_stream::{StreamFault, StreamId, Streams};
+
+// Adds triangles, in order, at the end of a stream.
+fn fill<W: Blob>(
+    streams: &mut Streams,
+    work: &mut W,
+    id: StreamId,
+    tris: &[Tri],
+) -> Result<(), StreamFault>
+    requires live { IsLive streams.old id }
+    requires stands { ForSome (W.held work.old) (Stands streams.old) }
+    requires plain { All (IsHeld streams.old.l) tris.now }
+    requires few { total streams.old + length tris.now ≤ 2 ^ 40 }
+    ensures filled { OnOk result (Fills id tris.now streams.old streams.new (W.held work.old) (W.held work.new)) }
+    ensures later { W.faults work.old ≤ W.faults work.new }
+{
+    'tris: for t in tris {
+        streams.append(work, id, *t)?;
+    }
+    Ok(())
+}
+
+// Stub.
+fn number_by_cap<W: Blob>(
+    alloc: Global,
+    mesh: InputMesh,
+    cap: u32,
+    work: &mut W,
+) -> Result<Numbered, Status>
+    requires { IsSmallMesh mesh }
+    ensures mesh { IfOk result (λ numbered. ForSome (W.held work.old) (λ _. numbered_mesh numbered ≡ mesh_for (Some cap) mesh.l mesh.tris.items)) }
+    ensures numbering { IfOk result IsNumbering }
+    ensures few { OnOk result (ForSome (W.held work.old) (λ _. length (split_for (Some cap) mesh.l mesh.tris.items) ≤ most_centres)) }
+    ensures too_many { result ≡ Err Status.TooManyRecords → ForSome (W.held work.old) (λ _. most_centres < length (split_for (Some cap) mesh.l mesh.tris.items)) }
+    ensures status { IfErr result (λ status. (status ≡ Status.Memory) ⊎ (status ≡ Status.TooManyRecords)) }
+    ensures later { W.faults work.old ≤ W.faults work.new }
+{
+    Err(Status::Memory)
+}
+
+/// Numbers the vertices of a mesh in the order of its finest cut. Without a cap no diamond is split.
+pub fn number<W: Blob>(
+    alloc: Global,
+    mesh: InputMesh,
+    cap: Option<u32>,
+    work: &mut W,
+) -> Result<Numbered, Status>
+    requires { IsSmallMesh mesh }
+    ensures mesh { IfOk result (λ numbered. ForSome (W.held work.old) (λ _. numbered_mesh numbered ≡ mesh_for cap mesh.l mesh.tris.items)) }
+    ensures numbering { IfOk result IsNumbering }
+    ensures few { OnOk result (ForSome (W.held work.old) (λ _. length (split_for cap mesh.l mesh.tris.items) ≤ most_centres)) }
+    ensures too_many { result ≡ Err Status.TooManyRecords → ForSome (W.held work.old) (λ _. most_centres < length (split_for cap mesh.l mesh.tris.items)) }
+    ensures status { IfErr result (λ status. (status ≡ Status.Memory) ⊎ (status ≡ Status.TooManyRecords)) }
+    ensures later { W.faults work.old ≤ W.faults work.new }
+{
+    match cap {
+        Some(cap) => number_by_cap(alloc, mesh, cap, work),
+        None => Ok(number_by_roots(alloc, mesh.tris)?),
+    }
+}
