@@ -1,15 +1,19 @@
 // The words of the command line.
-ghost use Rattle.std.specs.Prelude.{◌≡◌, ◌≤◌, Some, None, Err, map, string_bytes, IfOk, IfSome};
-ghost use Rattle.puzzle_cli.specs.Words.{asked};
-ghost use Rattle.puzzle_cli.specs.declared.jobs.WordsFault.{WordsFault};
+ghost use Rattle.std.specs.Prelude.{◌≡◌, ◌↔◌, codes, string_bytes, IsTrue};
+ghost use Rattle.puzzle_cli.specs.Finest.{AsksFinest};
 
-use crate::jobs::{Job, WordsFault};
-use std::alloc::Global;
-
-/// The job.
-pub fn read_words(_alloc: Global, _words: &[String]) -> Result<Job, WordsFault>
-    ensures job { IfOk result (λ job. asked (map string_bytes _words.now) ≡ Some job) }
-    ensures usage { result ≡ Err WordsFault.Usage → asked (map string_bytes _words.now) ≡ None }
+fn is_finest(word: &String) -> bool
+    ensures { IsTrue result ↔ (string_bytes word.now ≡ codes "finest") }
 {
-    Err(WordsFault::Memory)
+    word.as_str() == "finest"
+}
+
+/// Whether the words are the one word `finest`.
+pub fn asks_finest(words: &[String]) -> bool
+    ensures { IsTrue result ↔ AsksFinest words.now }
+{
+    match words {
+        [word] => is_finest(word),
+        _ => false,
+    }
 }
