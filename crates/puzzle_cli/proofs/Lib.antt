@@ -5,3 +5,8 @@ pub mod RootLoops
 pub mod WordLists
 pub mod Exports
 pub mod ReadLemmas
+pub mod WorkedWords
+pub mod Parses
+pub mod Givens
+pub mod OptionWalks
+pub mod OptionTables

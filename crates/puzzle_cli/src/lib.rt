@@ -13,7 +13,9 @@ ghost use Rattle.puzzle_cli.specs.Finest.{digits_of, finest_mesh, finest_items, 
 ghost use Rattle.puzzle_cli.specs.Statuses.{status_of, IsRefused};
 
 mod finest;
+mod jobs;
 mod numbering;
+mod options;
 mod part_buffer;
 mod part_text;
 mod reading;
@@ -22,8 +24,11 @@ mod status;
 #[cfg(test)]
 mod tests;
 mod words;
+#[cfg(test)]
+mod words_tests;
 
 use crate::words::asks_finest;
+pub use jobs::{Job, WordsFault, read_words};
 pub use status::{InputKind, Place, Status};
 use std::alloc::Global;
 use tpz_io::{Blob, Out, Source};
