@@ -6,3 +6,8 @@ pub mod Exports
 pub mod ReadLemmas
 pub mod LeafOrder
 pub mod RootCut
+pub mod WorkedWords
+pub mod Parses
+pub mod Givens
+pub mod OptionWalks
+pub mod OptionTables

@@ -18,6 +18,7 @@ mod cut_order;
 mod finest;
 mod jobs;
 mod numbering;
+mod options;
 mod part_buffer;
 mod part_text;
 mod reading;
@@ -25,10 +26,10 @@ mod splitting;
 mod status;
 #[cfg(test)]
 mod tests;
-mod words;
+#[cfg(test)]
+mod words_tests;
 
-use crate::words::read_words;
-pub use jobs::{Job, WordsFault};
+pub use jobs::{Job, WordsFault, read_words};
 pub use status::{InputKind, Place, Status};
 use std::alloc::Global;
 use tpz_io::{Blob, Out, Source};

@@ -1,0 +1,94 @@
+// The jobs that the words of the command line ask for.
+ghost use Rattle.std.specs.Prelude.{◌≡◌, ◌≤◌, ◌↔◌, IsTrue, Err, None, Some, IfOk, IfSome, map, string_bytes};
+ghost use Rattle.puzzle_cli.specs.declared.jobs.WordsFault.TheVariants.{Usage, Memory};
+ghost use Rattle.puzzle_cli.specs.Words.{asked, finest, job_with};
+
+use crate::options::{Setting, option_number, take_options};
+use std::alloc::{AllocError, Global};
+
+/// What a command is to do, with the values of its options.
+#[derive(Clone, Copy, PartialEq, Eq, Debug)]
+pub enum Job {
+    /// `finest`: the digits behind the point that count, if they are given, and the most triangles of a tetrahedron that
+    /// isn't bisected, if any is to be bisected.
+    Finest {
+        digits: Option<u8>,
+        cap: Option<u32>,
+    },
+}
+
+/// Why no job was read.
+#[derive(Clone, Copy, PartialEq, Eq, Debug)]
+pub enum WordsFault {
+    /// The words aren't a command and a list of its options.
+    Usage,
+    /// Memory ran out.
+    Memory,
+}
+
+impl From<AllocError> for WordsFault {
+    ghost from_gives = { λ _ e. e ≡ Memory };
+
+    fn from(_: AllocError) -> Self {
+        WordsFault::Memory
+    }
+}
+
+// The options of the commands, with their ranges.
+const DIGITS: Setting = Setting {
+    name: "digits",
+    least: 0,
+    greatest: 9,
+    is_required: false,
+};
+
+const CAP: Setting = Setting {
+    name: "cap",
+    least: 1,
+    greatest: 16_777_216,
+    is_required: false,
+};
+
+/// The job that the words ask for: a command, compared exactly, and then options of that command, each at most once, as
+/// the two words `--NAME` and `VALUE` or the one word `--NAME=VALUE`. A value is 1 to 10 decimal digits in its range;
+/// leading zeros are allowed. All else is `Usage`, also `--help`, `--version`, `--` and the start of a name.
+pub fn read_words(alloc: Global, words: &[String]) -> Result<Job, WordsFault>
+    ensures ok { IfOk result (λ job. asked (map string_bytes words.now) ≡ Some job) }
+    ensures usage { result ≡ Err Usage → asked (map string_bytes words.now) ≡ None }
+{
+    match words {
+        [command, options @ ..] if is_named(command, "finest") => read_finest(alloc, options),
+        _ => Err(WordsFault::Usage),
+    }
+}
+
+fn is_named(word: &String, name: &str) -> bool
+    ensures { IsTrue result ↔ (string_bytes word.now ≡ name.now) }
+{
+    word.as_str() == name
+}
+
+fn read_finest(alloc: Global, words: &[String]) -> Result<Job, WordsFault>
+    ensures ok { IfOk result (λ job. job_with (map string_bytes words.now) finest ≡ Some job) }
+    ensures usage { result ≡ Err Usage → job_with (map string_bytes words.now) finest ≡ None }
+{
+    let settings = [DIGITS, CAP];
+    let matches = take_options(alloc, "finest", &settings, words)?;
+    let digits = option_number(&matches, &DIGITS)?;
+    let cap = option_number(&matches, &CAP)?;
+    Ok(Job::Finest {
+        digits: byte_of(digits),
+        cap,
+    })
+}
+
+// A number below 256 as a byte.
+fn byte_of(number: Option<u32>) -> Option<u8>
+    requires { IfSome number (λ n. n ≤ 255) }
+    ensures { result ≡ number }
+{
+    match number {
+        Some(n) => Some(n as u8),
+        None => None,
+    }
+}
