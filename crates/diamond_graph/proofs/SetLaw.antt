@@ -1,7 +1,7 @@
 -- A list in record order depends only on which diamonds are in the list, and so does a closure.
 use Rattle.std.proofs.Common.{◌≡◌, ℕ, suc, ◌≤◌, Bool, true, false, ◌||◌, List, [], ◌∷◌, length, refl, sym, ◌∙◌, ap, ap₂, subst, inl, inr, arith, true≢false}
 use Rattle.std.specs.List.{IsDistinct, list_any, AllByRecursion}
-use Rattle.std.proofs.lemmas.Bool.{cases_Bool}
+use Rattle.std.proofs.lemmas.Bool.{cases_Bool, or_cases, or_left, or_right}
 use Rattle.std.proofs.lemmas.Map.Keys.{IsDistinct-head, IsDistinct-tail}
 use Rattle.tpz_base.specs.declared.shape.Point.{Point}
 use Rattle.tpz_base.specs.Lists.{insert_once, in_order}
@@ -13,8 +13,8 @@ use Rattle.tpz_base.proofs.CutLaw.{Member}
 use Rattle.tpz_base.proofs.Members.{NoTwice}
 use Rattle.tpz_base.proofs.Elements.{Ascending, IsTransitive, has-member, member-has, member-in_order, in_order-member, in_order-ascending, ascending-no_twice, at_most}
 use Rattle.tpz_base.proofs.RecordLt.{record_lt-tie, record_lt-through, record_lt-same}
-use Rattle.diamond_graph.specs.Closed.{closure, IsConforming}
-use Rattle.diamond_graph.proofs.ClosureLaw.{member-closure, closure-member, closure_least, closure_ascends, closure_holds}
+use Rattle.diamond_graph.specs.Closed.{closure, IsClosedSet, IsConforming, IsPartOf}
+use Rattle.diamond_graph.proofs.ClosureLaw.{member-closure, closure-member, closure_least, closure_ascends, closure_closed, closure_holds}
 
 -- two ascending lists with the same elements are one
 pub ascending_same : {X : Type 0} (below : X → X → Bool) → IsTransitive below → ((x : X) → below x x ≡ false) → (xs ys : List X) → Ascending below xs → Ascending below ys
@@ -127,3 +127,37 @@ closure_same L W V same =
 -- and not on their order
 pub closure-in_order : (L : ℕ) (d : Point) (W : List Point) → closure L (d ∷ in_order (record_lt L) W) ≡ closure L (d ∷ W)
 closure-in_order L d W = closure_same L (d ∷ in_order (record_lt L) W) (d ∷ W) (λ x. ap (λ b. point_eq d x || b) (has-in_order L W x))
+
+-- more diamonds have a closure that is no shorter
+pub closure-part : (L : ℕ) (W V : List Point) → IsPartOf W V → IsPartOf (closure L W) (closure L V)
+closure-part L W V part = closure_within L W V (λ d x h k. member-has (closure L V) x (closure-member L V d x (has-member V d (part d h)) k))
+
+pub closure-fewer : (L : ℕ) (W V : List Point) → IsPartOf W V → length (closure L W) ≤ length (closure L V)
+closure-fewer L W V part = fewer (closure L W) (closure L V) (closure-once L W) (closure-part L W V part)
+
+-- a diamond may be added to the closure, or to what it is made of
+pub closure-again : (L : ℕ) (d : Point) (W : List Point) → closure L (d ∷ closure L W) ≡ closure L (d ∷ W)
+closure-again L d W =
+    record_order_same L (closure L (d ∷ closure L W)) (closure L (d ∷ W)) (closure_ascends L (d ∷ closure L W)) (closure_ascends L (d ∷ W))
+    (λ x. both_ways (has_diamond (closure L (d ∷ closure L W)) x) (has_diamond (closure L (d ∷ W)) x)
+    (closure_least L (d ∷ closure L W) (closure L (d ∷ W)) (closure_closed L (d ∷ W)) inner x)
+    (closure-part L (d ∷ W) (d ∷ closure L W) outer x))
+  where
+    inner : IsPartOf (d ∷ closure L W) (closure L (d ∷ W))
+    inner x h =
+        elim (or_cases (point_eq d x) (has_diamond (closure L W) x) h) [
+          | inl e ↦ closure_holds L (d ∷ W) x (or_left (point_eq d x) _ e)
+          | inr e ↦ closure-part L W (d ∷ W) (λ y k. or_right (point_eq d y) _ k) x e
+        ]
+
+    outer : IsPartOf (d ∷ W) (d ∷ closure L W)
+    outer x h =
+        elim (or_cases (point_eq d x) (has_diamond W x) h) [
+          | inl e ↦ or_left (point_eq d x) _ e
+          | inr e ↦ or_right (point_eq d x) _ (closure_holds L W x e)
+        ]
+
+-- a closed set is its own closure
+pub closure-closed : (L : ℕ) (F : List Point) → IsClosedSet L F → closure L F ≡ F
+closure-closed L F h =
+    record_order_same L (closure L F) F (closure_ascends L F) (subst (Ascending (record_lt L)) h.order (in_order-ascends L F)) (closure_own L F h.conforming)
