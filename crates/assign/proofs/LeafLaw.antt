@@ -58,11 +58,11 @@ entered_level t T = by_test (is_beyond t T) where
   by_test true = refl
   by_test false = refl
 
-find_on : (F : List Point) (t : Tri) (n : ℕ) (T : Tetrahedron) → is_out F T ≡ false → find (is_out F) (path_below (suc n) t T) ≡ find (is_out F) (path_below n t (entered t T))
+pub find_on : (F : List Point) (t : Tri) (n : ℕ) (T : Tetrahedron) → is_out F T ≡ false → find (is_out F) (path_below (suc n) t T) ≡ find (is_out F) (path_below n t (entered t T))
 unfolding path_below
 find_on F t n T e = rw e refl
 
-find_here : (F : List Point) (t : Tri) (n : ℕ) (T : Tetrahedron) → is_out F T ≡ true → find (is_out F) (path_below n t T) ≡ Some T
+pub find_here : (F : List Point) (t : Tri) (n : ℕ) (T : Tetrahedron) → is_out F T ≡ true → find (is_out F) (path_below n t T) ≡ Some T
 unfolding path_below
 find_here F t zero T e = rw e refl
 find_here F t (suc n) T e = rw e refl

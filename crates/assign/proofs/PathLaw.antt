@@ -89,7 +89,7 @@ root_member L false b2 b3 true b5 = inr (inr (inl refl))
 root_member L false b2 b3 false true = inr (inr (inr (inl refl)))
 root_member L false b2 b3 false false = inr (inr (inr (inr (inr (inl refl)))))
 
-entered_child : (t : Tri) (T : Tetrahedron) → Member (children T) (entered t T)
+pub entered_child : (t : Tri) (T : Tetrahedron) → Member (children T) (entered t T)
 entered_child t T = elim (entered_is t T) [ inl e ↦ inl (sym e) | inr e ↦ inr (inl (sym e)) ]
 
 pub walk_member : (L : ℕ) (t : Tri) (m : ℕ) → Member (at_level L m) (walk L t m)
