@@ -1,12 +1,10 @@
 -- The sum of coordinates that the code compares with 0 has the sign of the side.
-use Rattle.std.proofs.Common.{◌≡◌, ◌<◌, ◌≤◌, ℕ, zero, suc, ◌+◌, ◌-◌, ◌*◌, ◌/◌, ◌%◌, ◌^◌, Bool, true, false, List, [], ◌∷◌, map, cond, refl, sym, ◌∙◌, ap, ap₂, subst, arith, pow_pos}
-use Rattle.std.specs.Prelude.{ℤ, pos, ◌+ℤ◌, ◌-ℤ◌, int_lt, ◌==◌, filter, slice_get, Option, Some, None, IfSome}
-use Rattle.std.proofs.Common.{w64, to_z, of_z}
-use Rattle.std.specs.Prelude.{unsigned_abs}
+use Rattle.std.proofs.Common.{w64, to_z, of_z, ◌≡◌, ◌<◌, ◌≤◌, ℕ, zero, suc, ◌+◌, ◌-◌, ◌*◌, ◌/◌, ◌%◌, ◌^◌, Bool, true, false, List, [], ◌∷◌, ◌++◌, map, length, refl, sym, ◌∙◌, ap, ap₂, subst, arith, pow_pos}
+use Rattle.std.specs.Prelude.{ℤ, pos, ◌+ℤ◌, ◌-ℤ◌, int_lt, unsigned_abs, min, filter, slice_get, IfSome}
+use Rattle.std.specs.List.{slice_index_or}
 use Rattle.std.proofs.lemmas.Int.{ints, to_z-of_z, fits_signed_from_abs}
 use Rattle.std.proofs.Math.IntN.{+ℤ_comm}
 use Rattle.std.proofs.Math.Nat.{mul-div_cancel_left}
-use Rattle.std.proofs.lemmas.Bool.{eqb-true, eq-eqb, false_from_ne_true}
 use Rattle.tpz_base.specs.declared.shape.Point.{Point}
 use Rattle.tpz_base.specs.declared.shape.Tri.{Tri}
 use Rattle.tpz_base.specs.Diamonds.{level_of}
@@ -17,20 +15,20 @@ use Rattle.tpz_base.proofs.PointLemmas.{point_cong}
 use Rattle.tpz_base.proofs.AxisPaths.{Order, xyz, xzy, yxz, yzx, zxy, zyx, along}
 use Rattle.tetra_name.specs.declared.shape.Half.{Half}
 use Rattle.tetra_name.specs.declared.shape.Tet.{Tet}
-use Rattle.tetra_name.specs.Names.{IsCentre, IsName, corners_of, point_of, tetrahedron_of}
+use Rattle.tetra_name.specs.Names.{IsName, over, point_of, tetrahedron_of}
 use Rattle.tetra_name.specs.Places.{IsScale, IsPlace}
-use Rattle.std.specs.List.{slice_index_or}
+use Rattle.tetra_name.specs.States.{axis_state, states_of, edge_axes, cube_pairs, cube_pair, quick_pair}
 use Rattle.tetra_name.specs.Steps.{cube_corners, face_corners, edge_corners, is_member, long_axes, pairs, start, finish, corners_at, member_at}
-use Rattle.tetra_name.proofs.Units.{UnitOf}
 use Rattle.tetra_name.proofs.NamesLaw.{unit_of_centre, axes_within}
 use Rattle.tetra_name.proofs.NameFacts.{some_of}
 use Rattle.tetra_name.proofs.Flags.{spot, cube_list, face_list, edge_list}
-use Rattle.tetra_name.proofs.Closed.{way, start_up, start_down, finish_up, finish_down, scale-along, cube_is, face_is, edge_is, cube_kind, face_kind, edge_kind}
-use Rattle.tetra_name.proofs.Directions.{first, second, third, shifted, by_order, Along}
-use Rattle.tetra_name.proofs.Children.{CubeParts, FaceParts, EdgeParts, cube_parts, face_parts, edge_parts}
+use Rattle.tetra_name.proofs.Closed.{way, scale-along, cube_is, face_is, edge_is, cube_kind, face_kind, edge_kind}
+use Rattle.tetra_name.proofs.Directions.{second, shifted, by_order}
+use Rattle.tetra_name.proofs.Children.{cube_parts, face_parts, edge_parts}
 use Rattle.tetra_name.proofs.ChildLaw.{may_back}
-use Rattle.tetra_name.proofs.PlaceLaw.{centre_of_name, corners_in, has_pair, picked, stands, level_of_scale, box_of_scale}
-use Rattle.assign.specs.Leans.{lean, outer}
+use Rattle.tetra_name.proofs.PlaceLaw.{centre_of_name, has_pair, picked, stands, level_of_scale, box_of_scale, even_of_scale}
+use Rattle.tetra_name.proofs.StatesLaw.{axes_of_states, cube_slot, pair_law}
+use Rattle.assign.specs.Leans.{lean, middle_axes, middle_axis, outer}
 use Rattle.assign.specs.Paths.{is_beyond}
 use Rattle.assign.proofs.Volumes.{toward}
 use Rattle.assign.proofs.SideLaw.{scale_at, cube_beyond, face_beyond, edge_beyond}
@@ -79,51 +77,83 @@ leans-along yzx s0 s1 s2 c0 c1 c2 m0 m1 m2 = omega (arith, ints)
 leans-along zxy s0 s1 s2 c0 c1 c2 m0 m1 m2 = omega (arith, ints)
 leans-along zyx s0 s1 s2 c0 c1 c2 m0 m1 m2 = omega (arith, ints)
 
--- the outer two where the points differ on the second axis
-unfoldable outer_leans : Point → Point → Point → Point → Point → ℤ
-outer_leans p q s c u = outer p q (lean s.x c.x u.x) (lean s.y c.y u.y) (lean s.z c.z u.z)
+-- the outer two
+unfoldable outer_leans : ℕ → Point → Point → Point → ℤ
+outer_leans axis s c u = outer axis (lean s.x c.x u.x) (lean s.y c.y u.y) (lean s.z c.z u.z)
 
-outer-along : (w : Order) (p a b r s0 s1 s2 c0 c1 c2 m0 m1 m2 : ℕ) → (a == b) ≡ false → (p == p) ≡ true → (r == r) ≡ true
-    → outer_leans (along w p a r) (along w p b r) (along w s0 s1 s2) (along w c0 c1 c2) (along w m0 m1 m2) ≡ lean s0 c0 m0 +ℤ lean s2 c2 m2
+-- the axis of a direction
+abbrev axis_of : ℕ → ℕ
+axis_of d = min d (5 - d)
+
+axis_second : (w : Order) (b b' : Bool) → axis_of (second w b) ≡ axis_of (second w b')
+axis_second xyz true true = refl
+axis_second xyz true false = refl
+axis_second xyz false true = refl
+axis_second xyz false false = refl
+axis_second xzy true true = refl
+axis_second xzy true false = refl
+axis_second xzy false true = refl
+axis_second xzy false false = refl
+axis_second yxz true true = refl
+axis_second yxz true false = refl
+axis_second yxz false true = refl
+axis_second yxz false false = refl
+axis_second yzx true true = refl
+axis_second yzx true false = refl
+axis_second yzx false true = refl
+axis_second yzx false false = refl
+axis_second zxy true true = refl
+axis_second zxy true false = refl
+axis_second zxy false true = refl
+axis_second zxy false false = refl
+axis_second zyx true true = refl
+axis_second zyx true false = refl
+axis_second zyx false true = refl
+axis_second zyx false false = refl
+
+outer-along : (w : Order) (s0 s1 s2 c0 c1 c2 m0 m1 m2 : ℕ) → outer_leans (axis_of (second w true)) (along w s0 s1 s2) (along w c0 c1 c2) (along w m0 m1 m2) ≡ lean s0 c0 m0 +ℤ lean s2 c2 m2
 unfolding outer_leans outer
-outer-along xyz p a b r s0 s1 s2 c0 c1 c2 m0 m1 m2 e f g = rw (f, e) refl
-outer-along xzy p a b r s0 s1 s2 c0 c1 c2 m0 m1 m2 e f g = rw (f, g) refl
-outer-along yxz p a b r s0 s1 s2 c0 c1 c2 m0 m1 m2 e f g = rw e refl
-outer-along yzx p a b r s0 s1 s2 c0 c1 c2 m0 m1 m2 e f g = rw (g, f) (+ℤ_comm (lean s2 c2 m2) (lean s0 c0 m0))
-outer-along zxy p a b r s0 s1 s2 c0 c1 c2 m0 m1 m2 e f g = rw e (+ℤ_comm (lean s2 c2 m2) (lean s0 c0 m0))
-outer-along zyx p a b r s0 s1 s2 c0 c1 c2 m0 m1 m2 e f g = rw (g, e) (+ℤ_comm (lean s2 c2 m2) (lean s0 c0 m0))
+outer-along xyz s0 s1 s2 c0 c1 c2 m0 m1 m2 = refl
+outer-along xzy s0 s1 s2 c0 c1 c2 m0 m1 m2 = refl
+outer-along yxz s0 s1 s2 c0 c1 c2 m0 m1 m2 = refl
+outer-along yzx s0 s1 s2 c0 c1 c2 m0 m1 m2 = +ℤ_comm (lean s2 c2 m2) (lean s0 c0 m0)
+outer-along zxy s0 s1 s2 c0 c1 c2 m0 m1 m2 = +ℤ_comm (lean s2 c2 m2) (lean s0 c0 m0)
+outer-along zyx s0 s1 s2 c0 c1 c2 m0 m1 m2 = +ℤ_comm (lean s2 c2 m2) (lean s0 c0 m0)
 
-differs : (a b : ℕ) → (a ≡ b → ⊥) → (a == b) ≡ false
-differs a b h = false_from_ne_true (a == b) (λ e. h (eqb-true a b e))
+at_left : {X : Type 0} (xs ys : List X) (i : ℕ) (d : X) → i < length xs → slice_index_or (xs ++ ys) i d ≡ slice_index_or xs i d
+at_left [] ys i d h = absurd (omega (arith, h))
+at_left (x ∷ xs) ys zero d h = refl
+at_left (x ∷ xs) ys (suc i) d h = at_left xs ys i d (omega (arith, h))
 
--- the ends of a step
-apart : (h : ℕ) (b : Bool) (m : ℕ) → 0 < h → m % 4 ≡ way b → h * start m ≡ h * finish m → ⊥
-apart h true m some e k =
-    let g : m ≡ suc (m - 1) = omega (arith, e) in
-    let s : h * start m ≡ h * (m - 1) = ap (λ n. h * n) (start_up m e) in
-    let f : h * finish m ≡ h * (m - 1) + 2 * h = ap (λ n. h * n) (finish_up m e ∙ ap (λ n. n + 1) g) ∙ omega arith in
-    omega (arith, s, f, k, some)
-apart h false m some e k =
-    let g : m ≡ suc (m - 1) = omega (arith, e) in
-    let s : h * finish m ≡ h * (m - 1) = ap (λ n. h * n) (finish_down m e) in
-    let f : h * start m ≡ h * (m - 1) + 2 * h = ap (λ n. h * n) (start_down m e ∙ ap (λ n. n + 1) g) ∙ omega arith in
-    omega (arith, s, f, k, some)
+at_right : {X : Type 0} (xs ys : List X) (i k : ℕ) (d : X) → k ≡ length xs + i → slice_index_or (xs ++ ys) k d ≡ slice_index_or ys i d
+at_right [] ys i k d e = let f : k ≡ i = omega (arith, e) in ap (λ n. slice_index_or ys n d) f
+at_right (x ∷ xs) ys i zero d e = absurd (omega (arith, e))
+at_right (x ∷ xs) ys i (suc k) d e = at_right xs ys i k d (omega (arith, e))
+
+mapped : {X Y : Type 0} (f : X → Y) (xs : List X) (i : ℕ) (d : X) → slice_index_or (map f xs) i (f d) ≡ f (slice_index_or xs i d)
+mapped f [] i d = refl
+mapped f (x ∷ xs) zero d = refl
+mapped f (x ∷ xs) (suc i) d = mapped f xs i d
+
+table_is : map (λ (q : ℕ × ℕ). axis_of q.1) cube_pairs ≡ middle_axes ++ middle_axes
+unfolding cube_pairs middle_axes
+table_is = refl
+
+-- the middle step's axis by the table of all directions
+middle_of : (z i k : ℕ) → z < 2 → i < 24 → k ≡ 24 * z + i → axis_of (slice_index_or cube_pairs k (0, 0)).1 ≡ slice_index_or middle_axes i 0
+unfolding middle_axes
+middle_of zero i k hz hi e =
+    let f : k ≡ i = omega (arith, e) in
+    sym (mapped (λ (q : ℕ × ℕ). axis_of q.1) cube_pairs k (0, 0)) ∙ ap₂ (λ xs n. slice_index_or xs n 0) table_is f ∙ at_left middle_axes middle_axes i 0 hi
+middle_of (suc zero) i k hz hi e =
+    sym (mapped (λ (q : ℕ × ℕ). axis_of q.1) cube_pairs k (0, 0)) ∙ ap (λ xs. slice_index_or xs k 0) table_is ∙ at_right middle_axes middle_axes i k 0 (omega (arith, e))
+middle_of (suc (suc z)) i k hz hi e = absurd (omega (arith, hz))
 
 pub mapped_at : (at : List Half) (i : ℕ) → point_of (slice_index_or at i (record { x = 0; y = 0; z = 0 })) ≡ slice_index_or (map point_of at) i (point 0 0 0)
-mapped_at [] i = refl
-mapped_at (x ∷ xs) zero = refl
-mapped_at (x ∷ xs) (suc i) = mapped_at xs i
+mapped_at at i = sym (mapped point_of at i (record { x = 0; y = 0; z = 0 }))
 
-second_of : (h : ℕ) (w : Order) (a0 a1 a2 b0 b1 b2 : ℕ) → slice_index_or (cube_list h w a0 a1 a2 b0 b1 b2) 1 (point 0 0 0) ≡ spot h w b0 a1 a2
-unfolding cube_list
-second_of h w a0 a1 a2 b0 b1 b2 = refl
-
-third_of : (h : ℕ) (w : Order) (a0 a1 a2 b0 b1 b2 : ℕ) → slice_index_or (cube_list h w a0 a1 a2 b0 b1 b2) 2 (point 0 0 0) ≡ spot h w b0 b1 a2
-unfolding cube_list
-third_of h w a0 a1 a2 b0 b1 b2 = refl
-
-outer_leans_cong : {p p' q q' s s' c c' u u' : Point} → p ≡ p' → q ≡ q' → s ≡ s' → c ≡ c' → u ≡ u' → outer_leans p q s c u ≡ outer_leans p' q' s' c' u'
-outer_leans_cong e f g h k = cc
+outer_leans_cong : {a a' : ℕ} {s s' c c' u u' : Point} → a ≡ a' → s ≡ s' → c ≡ c' → u ≡ u' → outer_leans a s c u ≡ outer_leans a' s' c' u'
+outer_leans_cong e g h k = cc
 
 two_leans : (x y z a b : ℤ) → x ≡ a → y ≡ b → z ≡ pos 0 → x +ℤ (y +ℤ z) ≡ a +ℤ b
 two_leans x y z a b e f g = omega (arith, ints)
@@ -134,7 +164,7 @@ one_lean x y z a e f g = omega (arith, ints)
 leans_cong : {s s' c c' u u' : Point} → s ≡ s' → c ≡ c' → u ≡ u' → leans s c u ≡ leans s' c' u'
 leans_cong g h k = cc
 
-module _ (L : ℕ) (t : Tet) (tri : Tri) (Q : Placed L t) where
+module _ (L : ℕ) (t : Tet) (Q : Placed L t) where
   -- which kind it is, and how long a unit is
   record Kind (n power : ℕ) : Type 0 where
     axes : long_axes Q.u + n % 3 ≡ 3
@@ -153,8 +183,9 @@ module _ (L : ℕ) (t : Tet) (tri : Tri) (Q : Placed L t) where
         level_is = is;
       }
 
-  -- the coordinates in units
-  units_of : (power : ℕ) → Q.j ≡ power → point ((point_of t.centre).x / 2 ^ power) ((point_of t.centre).y / 2 ^ power) ((point_of t.centre).z / 2 ^ power) ≡ Q.u
+  -- the centre in units
+  units_of : (power : ℕ) → Q.j ≡ power → over power (point_of t.centre) ≡ Q.u
+  unfolding over
   units_of power e =
       point_cong _ _ _ _ _ _
       (ap (λ (p : Point). p.x / 2 ^ power) Q.place.scale.is ∙ back Q.u.x)
@@ -163,6 +194,47 @@ module _ (L : ℕ) (t : Tet) (tri : Tri) (Q : Placed L t) where
     where
       back : (n : ℕ) → 2 ^ Q.j * n / 2 ^ power ≡ n
       back n = ap (λ i. 2 ^ Q.j * n / 2 ^ i) (sym e) ∙ mul-div_cancel_left n (pow_pos Q.j)
+
+  -- a cube's directions by the states of its axes
+  quick_cube : edge_axes (states_of Q.N Q.u) ≡ 3 → quick_pair (states_of Q.N Q.u) t.slot ≡ slice_index_or cube_pairs (6 * ((states_of Q.N Q.u).x + 2 * (states_of Q.N Q.u).y + 4 * (states_of Q.N Q.u).z) + t.slot) (0, 0)
+  unfolding quick_pair cube_pair
+  quick_cube three = rw three refl
+
+  odd_state : (n : ℕ) → n % 2 ≡ 1 → axis_state Q.N n ≡ n % 4 / 2
+  unfolding axis_state
+  odd_state n e = rw e refl
+
+  states_are : (x y z : ℕ) → x ≡ axis_state Q.N Q.u.x → y ≡ axis_state Q.N Q.u.y → z ≡ axis_state Q.N Q.u.z → (x ≡ (states_of Q.N Q.u).x) × (y ≡ (states_of Q.N Q.u).y) × (z ≡ (states_of Q.N Q.u).z)
+  unfolding states_of
+  states_are x y z e f g = (e, f, g)
+
+  all_odd : long_axes Q.u ≡ 3 → (Q.u.x % 2 ≡ 1) × (Q.u.y % 2 ≡ 1) × (Q.u.z % 2 ≡ 1)
+  unfolding long_axes
+  all_odd o = (omega (arith, o), omega (arith, o), omega (arith, o))
+
+  slot_few : long_axes Q.u ≡ 3 → t.slot < 6
+  slot_few o =
+      let S = Q.place.scale in
+      let box = box_of_scale L (point_of t.centre) Q.j Q.N Q.u S in
+      let even = even_of_scale L (point_of t.centre) Q.j Q.N Q.u S in
+      cube_slot Q.N Q.u box even S.unit.some t.slot Q.q Q.place.slot (sym (axes_of_states Q.N Q.u box even S.unit.some) ∙ o)
+
+  middle_here : long_axes Q.u ≡ 3 → middle_axis Q.u t.slot ≡ axis_of Q.q.1
+  unfolding middle_axis
+  middle_here o =
+      let S = Q.place.scale in
+      let box = box_of_scale L (point_of t.centre) Q.j Q.N Q.u S in
+      let even = even_of_scale L (point_of t.centre) Q.j Q.N Q.u S in
+      let three = sym (axes_of_states Q.N Q.u box even S.unit.some) ∙ o in
+      let odd = all_odd o in
+      let few = slot_few o in
+      let x = odd_state Q.u.x odd.0 in
+      let y = odd_state Q.u.y odd.1 in
+      let z = odd_state Q.u.z odd.2 in
+      let s = states_are (Q.u.x % 4 / 2) (Q.u.y % 4 / 2) (Q.u.z % 4 / 2) (sym x) (sym y) (sym z) in
+      let at : 6 * ((states_of Q.N Q.u).x + 2 * (states_of Q.N Q.u).y + 4 * (states_of Q.N Q.u).z) + t.slot ≡ 24 * (Q.u.z % 4 / 2) + (6 * (Q.u.x % 4 / 2 + 2 * (Q.u.y % 4 / 2)) + t.slot) = omega (arith, s.0, s.1, s.2) in
+      sym (middle_of (Q.u.z % 4 / 2) (6 * (Q.u.x % 4 / 2 + 2 * (Q.u.y % 4 / 2)) + t.slot) _ (omega arith) (omega (arith, few)) at)
+      ∙ ap (λ (q : ℕ × ℕ). axis_of q.1) (sym (quick_cube three) ∙ pair_law Q.N Q.u box even S.unit.some t.slot Q.q Q.place.slot)
 
   -- what holds of the member that the directions tell holds of the named tetrahedron
   of_name : (F : Tetrahedron → Type 0) → F (member_at Q.place.scale.n (2 ^ Q.j) Q.u Q.q) → IfSome (tetrahedron_of L t) F
@@ -179,36 +251,35 @@ module _ (L : ℕ) (t : Tet) (tri : Tri) (Q : Placed L t) where
   centre_along : (w : Order) (x y z : ℕ) → Q.u ≡ along w x y z → point_of t.centre ≡ spot (2 ^ Q.j) w x y z
   centre_along w x y z e = Q.place.scale.is ∙ ap (point_scale (2 ^ Q.j)) e ∙ scale-along (2 ^ Q.j) w x y z
 
+module _ (L : ℕ) (t : Tet) (tri : Tri) (Q : Placed L t) where
   -- three steps
-  cube_drift : (n power : ℕ) → n ≡ level_of L (point_of t.centre) → power ≡ L - n / 3 → n % 3 ≡ 0 → (at : List Half) → map point_of at ≡ corners_of L t → (r : ℤ)
-      → r ≡ outer_leans (point_of (slice_index_or at 1 (record { x = 0; y = 0; z = 0 }))) (point_of (slice_index_or at 2 (record { x = 0; y = 0; z = 0 }))) (corner_sum tri) (point_of t.centre)
-      (point ((point_of t.centre).x / 2 ^ power) ((point_of t.centre).y / 2 ^ power) ((point_of t.centre).z / 2 ^ power))
+  cube_drift : (n power : ℕ) → n ≡ level_of L (point_of t.centre) → power ≡ L - n / 3 → n % 3 ≡ 0 → (r : ℤ)
+      → r ≡ outer_leans (middle_axis (over power (point_of t.centre)) t.slot) (corner_sum tri) (point_of t.centre) (over power (point_of t.centre))
       → IfSome (tetrahedron_of L t) (λ T. int_lt (pos 0) r ≡ is_beyond tri T)
-  cube_drift n power e f m at listed r is =
-      let K = kind n power e f in
+  cube_drift n power e f m r is =
+      let K = kind L t Q n power e f in
       let o : long_axes Q.u ≡ 3 = omega (arith, K.axes, m) in
       let k = picked L t Q.j Q.N Q.u Q.q Q.place in
       let C = cube_parts Q.N Q.u Q.q (box_of_scale L (point_of t.centre) Q.j Q.N Q.u Q.place.scale) o k.0 k.1 in
       let A = by_order C.w (corner_sum tri) in
       let list : map (point_scale (2 ^ Q.j)) (corners_at Q.u Q.q) ≡ cube_list (2 ^ Q.j) C.w (start C.x) (start C.y) (start C.z) (finish C.x) (finish C.y) (finish C.z)
       = ap (map (point_scale (2 ^ Q.j))) (cube_kind Q.u Q.q o) ∙ ap₂ (λ v q. map (point_scale (2 ^ Q.j)) (cube_corners v q)) C.u_is C.q_is ∙ cube_is (2 ^ Q.j) C.w C.b C.c C.x C.y C.z C.x_way C.y_way in
-      let here : map point_of at ≡ cube_list (2 ^ Q.j) C.w (start C.x) (start C.y) (start C.z) (finish C.x) (finish C.y) (finish C.z) = listed ∙ corners_in L t Q.j Q.N Q.u Q.q Q.place ∙ list in
-      let beyond = cube_beyond (2 ^ Q.j) (member_at Q.place.scale.n (2 ^ Q.j) Q.u Q.q) C.w C.b C.c C.d C.x C.y C.z C.x_way C.y_way C.z_way (ap (λ i. i % 3) (the_level ∙ K.level_is) ∙ m) (the_corners ∙ list)
+      let beyond = cube_beyond (2 ^ Q.j) (member_at Q.place.scale.n (2 ^ Q.j) Q.u Q.q) C.w C.b C.c C.d C.x C.y C.z C.x_way C.y_way C.z_way (ap (λ i. i % 3) (the_level L t Q ∙ K.level_is) ∙ m) (the_corners L t Q ∙ list)
       tri (2 * A.p) (2 * A.q) (2 * A.r) (pow_pos Q.j) (ap (point_scale 2) A.is ∙ scale_at 2 C.w A.p A.q A.r) in
-      let one = mapped_at at 1 ∙ ap (λ xs. slice_index_or xs 1 (point 0 0 0)) here ∙ second_of (2 ^ Q.j) C.w (start C.x) (start C.y) (start C.z) (finish C.x) (finish C.y) (finish C.z) in
-      let two = mapped_at at 2 ∙ ap (λ xs. slice_index_or xs 2 (point 0 0 0)) here ∙ third_of (2 ^ Q.j) C.w (start C.x) (start C.y) (start C.z) (finish C.x) (finish C.y) (finish C.z) in
+      let units = units_of L t Q power K.power_is in
+      let middle : middle_axis (over power (point_of t.centre)) t.slot ≡ axis_of (second C.w true) =
+      ap (λ u. middle_axis u t.slot) units ∙ middle_here L t Q o ∙ ap (λ (q : ℕ × ℕ). axis_of q.1) C.q_is ∙ axis_second C.w C.c true in
       let sum : r ≡ lean A.p (2 ^ Q.j * C.x) C.x +ℤ lean A.r (2 ^ Q.j * C.z) C.z
-      = is ∙ outer_leans_cong one two A.is (centre_along C.w C.x C.y C.z C.u_is) (units_of power K.power_is ∙ C.u_is)
-      ∙ outer-along C.w _ _ _ _ A.p A.q A.r _ _ _ C.x C.y C.z (differs _ _ (apart (2 ^ Q.j) C.c C.y (pow_pos Q.j) C.y_way)) (eq-eqb _ _ refl) (eq-eqb _ _ refl) in
-      of_name (λ T. int_lt (pos 0) r ≡ is_beyond tri T)
+      = is ∙ outer_leans_cong middle A.is (centre_along L t Q C.w C.x C.y C.z C.u_is) (units ∙ C.u_is) ∙ outer-along C.w A.p A.q A.r _ _ _ C.x C.y C.z in
+      of_name L t Q (λ T. int_lt (pos 0) r ≡ is_beyond tri T)
       (ap (int_lt (pos 0)) (sum ∙ ap₂ (λ x y. x +ℤ y) (long_lean A.p (2 ^ Q.j) C.x C.b C.x_way) (long_lean A.r (2 ^ Q.j) C.z C.d C.z_way)) ∙ sym beyond)
 
   -- two steps
   face_drift : (n power : ℕ) → n ≡ level_of L (point_of t.centre) → power ≡ L - n / 3 → n % 3 ≡ 1 → (r : ℤ)
-      → r ≡ leans (corner_sum tri) (point_of t.centre) (point ((point_of t.centre).x / 2 ^ power) ((point_of t.centre).y / 2 ^ power) ((point_of t.centre).z / 2 ^ power))
+      → r ≡ leans (corner_sum tri) (point_of t.centre) (over power (point_of t.centre))
       → IfSome (tetrahedron_of L t) (λ T. int_lt (pos 0) r ≡ is_beyond tri T)
   face_drift n power e f m r is =
-      let K = kind n power e f in
+      let K = kind L t Q n power e f in
       let o : long_axes Q.u ≡ 2 = omega (arith, K.axes, m) in
       let k = picked L t Q.j Q.N Q.u Q.q Q.place in
       let C = face_parts Q.N Q.u Q.q (box_of_scale L (point_of t.centre) Q.j Q.N Q.u Q.place.scale) o k.0 k.1 in
@@ -216,19 +287,19 @@ module _ (L : ℕ) (t : Tet) (tri : Tri) (Q : Placed L t) where
       let list : map (point_scale (2 ^ Q.j)) (corners_at Q.u Q.q) ≡ face_list (2 ^ Q.j) C.w (start C.x) (start C.y) C.z (finish C.x) (finish C.y) C.x C.y (shifted C.s 1 C.z)
       = ap (map (point_scale (2 ^ Q.j))) (face_kind Q.u Q.q o) ∙ ap₂ (λ v q. map (point_scale (2 ^ Q.j)) (face_corners v q)) C.u_is C.q_is ∙ face_is (2 ^ Q.j) C.w C.b C.s C.x C.y C.z C.x_way C.even in
       let beyond = face_beyond (2 ^ Q.j) (member_at Q.place.scale.n (2 ^ Q.j) Q.u Q.q) C.w C.b C.c C.s C.x C.y C.z C.x_way C.y_way (may_back Q.N C.s C.z C.even C.may)
-      (ap (λ i. i % 3) (the_level ∙ K.level_is) ∙ m) (the_corners ∙ list)
+      (ap (λ i. i % 3) (the_level L t Q ∙ K.level_is) ∙ m) (the_corners L t Q ∙ list)
       tri (2 * A.p) (2 * A.q) (2 * A.r) (pow_pos Q.j) (ap (point_scale 2) A.is ∙ scale_at 2 C.w A.p A.q A.r) in
       let sum : r ≡ lean A.p (2 ^ Q.j * C.x) C.x +ℤ (lean A.q (2 ^ Q.j * C.y) C.y +ℤ lean A.r (2 ^ Q.j * C.z) C.z)
-      = is ∙ leans_cong A.is (centre_along C.w C.x C.y C.z C.u_is) (units_of power K.power_is ∙ C.u_is) ∙ leans-along C.w A.p A.q A.r _ _ _ C.x C.y C.z in
-      of_name (λ T. int_lt (pos 0) r ≡ is_beyond tri T)
+      = is ∙ leans_cong A.is (centre_along L t Q C.w C.x C.y C.z C.u_is) (units_of L t Q power K.power_is ∙ C.u_is) ∙ leans-along C.w A.p A.q A.r _ _ _ C.x C.y C.z in
+      of_name L t Q (λ T. int_lt (pos 0) r ≡ is_beyond tri T)
       (ap (int_lt (pos 0)) (sum ∙ two_leans _ _ _ _ _ (long_lean A.p (2 ^ Q.j) C.x C.b C.x_way) (long_lean A.q (2 ^ Q.j) C.y C.c C.y_way) (flat_lean A.r (2 ^ Q.j * C.z) C.z C.even)) ∙ sym beyond)
 
   -- one step
   edge_drift : (n power : ℕ) → n ≡ level_of L (point_of t.centre) → power ≡ L - n / 3 → n % 3 ≡ 2 → (r : ℤ)
-      → r ≡ leans (corner_sum tri) (point_of t.centre) (point ((point_of t.centre).x / 2 ^ power) ((point_of t.centre).y / 2 ^ power) ((point_of t.centre).z / 2 ^ power))
+      → r ≡ leans (corner_sum tri) (point_of t.centre) (over power (point_of t.centre))
       → IfSome (tetrahedron_of L t) (λ T. int_lt (pos 0) r ≡ is_beyond tri T)
   edge_drift n power e f m r is =
-      let K = kind n power e f in
+      let K = kind L t Q n power e f in
       let o : long_axes Q.u ≡ 1 = omega (arith, K.axes, m) in
       let k = picked L t Q.j Q.N Q.u Q.q Q.place in
       let C = edge_parts Q.N Q.u Q.q (box_of_scale L (point_of t.centre) Q.j Q.N Q.u Q.place.scale) o k.0 k.1 in
@@ -236,15 +307,15 @@ module _ (L : ℕ) (t : Tet) (tri : Tri) (Q : Placed L t) where
       let list : map (point_scale (2 ^ Q.j)) (corners_at Q.u Q.q) ≡ edge_list (2 ^ Q.j) C.w (start C.x) C.y C.z (finish C.x) C.x (shifted C.s 1 C.y) (shifted C.t 1 C.z)
       = ap (map (point_scale (2 ^ Q.j))) (edge_kind Q.u Q.q o) ∙ ap₂ (λ v q. map (point_scale (2 ^ Q.j)) (edge_corners v q)) C.u_is C.q_is ∙ edge_is (2 ^ Q.j) C.w C.s C.t C.x C.y C.z C.y_even C.z_even in
       let beyond = edge_beyond (2 ^ Q.j) (member_at Q.place.scale.n (2 ^ Q.j) Q.u Q.q) C.w C.b C.s C.t C.x C.y C.z C.x_way (may_back Q.N C.s C.y C.y_even C.may) (may_back Q.N C.t C.z C.z_even C.may')
-      (ap (λ i. i % 3) (the_level ∙ K.level_is) ∙ m) (the_corners ∙ list)
+      (ap (λ i. i % 3) (the_level L t Q ∙ K.level_is) ∙ m) (the_corners L t Q ∙ list)
       tri (2 * A.p) (2 * A.q) (2 * A.r) (pow_pos Q.j) (ap (point_scale 2) A.is ∙ scale_at 2 C.w A.p A.q A.r) in
       let sum : r ≡ lean A.p (2 ^ Q.j * C.x) C.x +ℤ (lean A.q (2 ^ Q.j * C.y) C.y +ℤ lean A.r (2 ^ Q.j * C.z) C.z)
-      = is ∙ leans_cong A.is (centre_along C.w C.x C.y C.z C.u_is) (units_of power K.power_is ∙ C.u_is) ∙ leans-along C.w A.p A.q A.r _ _ _ C.x C.y C.z in
-      of_name (λ T. int_lt (pos 0) r ≡ is_beyond tri T)
+      = is ∙ leans_cong A.is (centre_along L t Q C.w C.x C.y C.z C.u_is) (units_of L t Q power K.power_is ∙ C.u_is) ∙ leans-along C.w A.p A.q A.r _ _ _ C.x C.y C.z in
+      of_name L t Q (λ T. int_lt (pos 0) r ≡ is_beyond tri T)
       (ap (int_lt (pos 0)) (sum ∙ one_lean _ _ _ _ (long_lean A.p (2 ^ Q.j) C.x C.b C.x_way) (flat_lean A.q (2 ^ Q.j * C.y) C.y C.y_even) (flat_lean A.r (2 ^ Q.j * C.z) C.z C.z_even)) ∙ sym beyond)
 
   flat_drift : (n power : ℕ) → n ≡ level_of L (point_of t.centre) → power ≡ L - n / 3 → (n % 3 ≡ 0 → ⊥) → (r : ℤ)
-      → r ≡ leans (corner_sum tri) (point_of t.centre) (point ((point_of t.centre).x / 2 ^ power) ((point_of t.centre).y / 2 ^ power) ((point_of t.centre).z / 2 ^ power))
+      → r ≡ leans (corner_sum tri) (point_of t.centre) (over power (point_of t.centre))
       → IfSome (tetrahedron_of L t) (λ T. int_lt (pos 0) r ≡ is_beyond tri T)
   flat_drift n power e f m r is = cases (n % 3) refl where
     cases : (i : ℕ) → n % 3 ≡ i → IfSome (tetrahedron_of L t) (λ T. int_lt (pos 0) r ≡ is_beyond tri T)
@@ -253,33 +324,39 @@ module _ (L : ℕ) (t : Tet) (tri : Tri) (Q : Placed L t) where
     cases (suc (suc zero)) k = edge_drift n power e f k r is
     cases (suc (suc (suc i))) k = absurd (omega (arith, k))
 
+-- a name of a cube has one of six slots
+pub few_slots : (L : ℕ) (t : Tet) → IsName L t → (n : ℕ) → n ≡ level_of L (point_of t.centre) → n % 3 ≡ 0 → t.slot < 6
+few_slots L t h n e m =
+    let Q = placed L t h in
+    let K = kind L t Q n (L - n / 3) e refl in
+    slot_few L t Q (omega (arith, K.axes, m))
+
 -- the sums of coordinates by their fields
 pub by_three : (L : ℕ) (t : Tet) (tri : Tri) → IsName L t → (n power : ℕ) → n ≡ level_of L (point_of t.centre) → power ≡ L - n / 3 → n % 3 ≡ 0
-    → (at : List Half) → map point_of at ≡ corners_of L t → (s : Point) → s ≡ corner_sum tri → (x y z r : ℤ)
-    → x ≡ lean s.x t.centre.x (t.centre.x / 2 ^ power) → y ≡ lean s.y t.centre.y (t.centre.y / 2 ^ power) → z ≡ lean s.z t.centre.z (t.centre.z / 2 ^ power)
-    → r ≡ outer (point_of (slice_index_or at 1 (record { x = 0; y = 0; z = 0 }))) (point_of (slice_index_or at 2 (record { x = 0; y = 0; z = 0 }))) x y z
+    → (u : Half) → point_of u ≡ over power (point_of t.centre) → (s : Point) → s ≡ corner_sum tri → (axis : ℕ) → axis ≡ middle_axis (point_of u) t.slot → (x y z r : ℤ)
+    → x ≡ lean s.x t.centre.x u.x → y ≡ lean s.y t.centre.y u.y → z ≡ lean s.z t.centre.z u.z → r ≡ outer axis x y z
     → (b : Bool) → b ≡ int_lt (pos 0) r → IfSome (tetrahedron_of L t) (λ T. b ≡ is_beyond tri T)
 unfolding outer_leans
-by_three L t tri h n power e f m at listed s s_is x y z r ex ey ez is b b_is =
-    let k : r ≡ outer_leans (point_of (slice_index_or at 1 (record { x = 0; y = 0; z = 0 }))) (point_of (slice_index_or at 2 (record { x = 0; y = 0; z = 0 }))) s (point_of t.centre)
-    (point (t.centre.x / 2 ^ power) (t.centre.y / 2 ^ power) (t.centre.z / 2 ^ power)) = rw (← ex, ← ey, ← ez) is in
-    subst (λ v. IfSome (tetrahedron_of L t) (λ T. v ≡ is_beyond tri T)) (sym b_is) (cube_drift L t tri (placed L t h) n power e f m at listed r (k ∙ outer_leans_cong refl refl s_is refl refl))
+by_three L t tri h n power e f m u u_is s s_is axis axis_is x y z r ex ey ez is b b_is =
+    let k : r ≡ outer_leans axis s (point_of t.centre) (point_of u) = rw (← ex, ← ey, ← ez) is in
+    subst (λ v. IfSome (tetrahedron_of L t) (λ T. v ≡ is_beyond tri T)) (sym b_is)
+    (cube_drift L t tri (placed L t h) n power e f m r (k ∙ outer_leans_cong (axis_is ∙ ap (λ v. middle_axis v t.slot) u_is) s_is refl u_is))
 
 pub by_fewer : (L : ℕ) (t : Tet) (tri : Tri) → IsName L t → (n power : ℕ) → n ≡ level_of L (point_of t.centre) → power ≡ L - n / 3 → (n % 3 ≡ 0 → ⊥)
-    → (s : Point) → s ≡ corner_sum tri → (x y z r : ℤ)
-    → x ≡ lean s.x t.centre.x (t.centre.x / 2 ^ power) → y ≡ lean s.y t.centre.y (t.centre.y / 2 ^ power) → z ≡ lean s.z t.centre.z (t.centre.z / 2 ^ power)
+    → (u : Half) → point_of u ≡ over power (point_of t.centre) → (s : Point) → s ≡ corner_sum tri → (x y z r : ℤ)
+    → x ≡ lean s.x t.centre.x u.x → y ≡ lean s.y t.centre.y u.y → z ≡ lean s.z t.centre.z u.z
     → r ≡ x +ℤ (y +ℤ z) → (b : Bool) → b ≡ int_lt (pos 0) r → IfSome (tetrahedron_of L t) (λ T. b ≡ is_beyond tri T)
 unfolding leans
-by_fewer L t tri h n power e f m s s_is x y z r ex ey ez is b b_is =
-    let k : r ≡ leans s (point_of t.centre) (point (t.centre.x / 2 ^ power) (t.centre.y / 2 ^ power) (t.centre.z / 2 ^ power)) = is ∙ ap₂ (λ u v. u +ℤ v) ex (ap₂ (λ u v. u +ℤ v) ey ez) in
-    subst (λ v. IfSome (tetrahedron_of L t) (λ T. v ≡ is_beyond tri T)) (sym b_is) (flat_drift L t tri (placed L t h) n power e f m r (k ∙ leans_cong s_is refl refl))
+by_fewer L t tri h n power e f m u u_is s s_is x y z r ex ey ez is b b_is =
+    let k : r ≡ leans s (point_of t.centre) (point_of u) = is ∙ ap₂ (λ u v. u +ℤ v) ex (ap₂ (λ u v. u +ℤ v) ey ez) in
+    subst (λ v. IfSome (tetrahedron_of L t) (λ T. v ≡ is_beyond tri T)) (sym b_is) (flat_drift L t tri (placed L t h) n power e f m r (k ∙ leans_cong s_is refl u_is))
 
 -- a number that went through its bits
 pub read_back : (z : ℤ) → unsigned_abs z ≤ 2 ^ 35 → to_z w64 (of_z w64 z) ≡ z
 read_back z h = to_z-of_z w64 z (fits_signed_from_abs w64 z (omega (arith, h)))
 
-pub outer_same : (p q : Point) {x x' y y' z z' : ℤ} → x ≡ x' → y ≡ y' → z ≡ z' → outer p q x y z ≡ outer p q x' y' z'
-outer_same p q e f g = cc
+pub outer_same : (axis : ℕ) {x x' y y' z z' : ℤ} → x ≡ x' → y ≡ y' → z ≡ z' → outer axis x y z ≡ outer axis x' y' z'
+outer_same axis e f g = cc
 
 pub total_same : {x x' y y' z z' : ℤ} → x ≡ x' → y ≡ y' → z ≡ z' → x +ℤ (y +ℤ z) ≡ x' +ℤ (y' +ℤ z')
 total_same e f g = ap₂ (λ u v. u +ℤ v) e (ap₂ (λ u v. u +ℤ v) f g)

@@ -1,11 +1,11 @@
 -- On the way down the first tetrahedron whose diamond isn't in the set is still to come.
-use Rattle.std.proofs.Common.{◌≡◌, ◌<◌, ◌≤◌, ℕ, zero, suc, ◌+◌, ◌-◌, ◌*◌, Bool, true, false, cond, not, List, [], ◌∷◌, refl, sym, ◌∙◌, ap, subst, arith}
-use Rattle.std.specs.Prelude.{find, Option, Some, None, IsSome}
+use Rattle.std.proofs.Common.{◌≡◌, ◌<◌, ◌≤◌, ℕ, zero, suc, ◌-◌, ◌*◌, Bool, true, false, cond, not, List, refl, sym, ◌∙◌, ap, subst, arith}
+use Rattle.std.specs.Prelude.{find, Some}
 use Rattle.std.specs.Option.{option_map}
 use Rattle.tpz_base.specs.declared.shape.Point.{Point}
 use Rattle.tpz_base.specs.declared.shape.Tri.{Tri}
 use Rattle.tpz_base.specs.Roots.{root_of}
-use Rattle.tpz_base.specs.Tetrahedra.{Tetrahedron, diamond, child_0, child_1, descendants, members, roots}
+use Rattle.tpz_base.specs.Tetrahedra.{Tetrahedron, diamond, child_0, child_1, members}
 use Rattle.tpz_base.specs.Cuts.{has_diamond}
 use Rattle.tpz_base.specs.Diamonds.{level_of}
 use Rattle.tpz_base.proofs.Members.{member_named}
@@ -58,11 +58,11 @@ entered_level t T = by_test (is_beyond t T) where
   by_test true = refl
   by_test false = refl
 
-find_on : (F : List Point) (t : Tri) (n : ℕ) (T : Tetrahedron) → is_out F T ≡ false → find (is_out F) (path_below (suc n) t T) ≡ find (is_out F) (path_below n t (entered t T))
+pub find_on : (F : List Point) (t : Tri) (n : ℕ) (T : Tetrahedron) → is_out F T ≡ false → find (is_out F) (path_below (suc n) t T) ≡ find (is_out F) (path_below n t (entered t T))
 unfolding path_below
 find_on F t n T e = rw e refl
 
-find_here : (F : List Point) (t : Tri) (n : ℕ) (T : Tetrahedron) → is_out F T ≡ true → find (is_out F) (path_below n t T) ≡ Some T
+pub find_here : (F : List Point) (t : Tri) (n : ℕ) (T : Tetrahedron) → is_out F T ≡ true → find (is_out F) (path_below n t T) ≡ Some T
 unfolding path_below
 find_here F t zero T e = rw e refl
 find_here F t (suc n) T e = rw e refl

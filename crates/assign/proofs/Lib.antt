@@ -1,3 +1,4 @@
+pub mod LeafFacts
 pub mod PathLaw
 pub mod FinestCut
 pub mod SplitLaw

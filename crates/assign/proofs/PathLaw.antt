@@ -1,12 +1,11 @@
 -- A path goes through one tetrahedron of each level, and from a tetrahedron to one of its children.
 use Rattle.std.proofs.Common.{◌≡◌, ◌≢◌, ℕ, zero, suc, ◌+◌, ◌*◌, ◌<◌, ◌≤◌, ◌⊎◌, Bool, true, false, cond, List, [], ◌∷◌, ◌++◌, refl, sym, ◌∙◌, ap, subst, inl, inr, arith, true≢false, leb}
-use Rattle.std.specs.Prelude.{sum_by, flat_map, pos, ◌*ℤ◌, int_lt}
+use Rattle.std.specs.Prelude.{sum_by, flat_map}
 use Rattle.std.specs.List.{slice_index_or}
 use Rattle.std.proofs.lemmas.Bool.{cases_Bool, or_cases, or_left, or_right, false_from_ne_true}
 use Rattle.tpz_base.specs.declared.shape.Tri.{Tri}
 use Rattle.tpz_base.specs.Lists.{has}
-use Rattle.tpz_base.specs.Points.{point_scale}
-use Rattle.tpz_base.specs.Tetrahedra.{Tetrahedron, diamond, child_0, child_1, children, roots, at_level, descendants, tetrahedron_eq, corner, tag}
+use Rattle.tpz_base.specs.Tetrahedra.{Tetrahedron, diamond, child_0, child_1, children, roots, at_level, descendants, tetrahedron_eq}
 use Rattle.tpz_base.specs.declared.shape.Point.{Point}
 use Rattle.tpz_base.specs.Points.{point_eq}
 use Rattle.tpz_base.specs.Tetrahedra.{members, parts}
@@ -17,7 +16,7 @@ use Rattle.tpz_base.proofs.Members.{hit, level_within}
 use Rattle.tpz_base.proofs.CutLaw.{Member, join_sum, child_sum, child_sum_is, members_sum, parts_sum, sum_by_same_on}
 use Rattle.tpz_base.proofs.Distinct.{at_its_level}
 use Rattle.tpz_base.proofs.Members.{NoTwice, tetrahedron_eq-true, tetrahedron_eq_refl, level_differs, no_twice-differ}
-use Rattle.tpz_base.specs.Roots.{corner_sum, root_slot, root_of}
+use Rattle.tpz_base.specs.Roots.{corner_sum, root_of}
 use Rattle.assign.specs.Paths.{path, path_below, entered, is_beyond}
 
 -- the tetrahedron of level m on the path
@@ -90,7 +89,7 @@ root_member L false b2 b3 true b5 = inr (inr (inl refl))
 root_member L false b2 b3 false true = inr (inr (inr (inl refl)))
 root_member L false b2 b3 false false = inr (inr (inr (inr (inr (inl refl)))))
 
-entered_child : (t : Tri) (T : Tetrahedron) → Member (children T) (entered t T)
+pub entered_child : (t : Tri) (T : Tetrahedron) → Member (children T) (entered t T)
 entered_child t T = elim (entered_is t T) [ inl e ↦ inl (sym e) | inr e ↦ inr (inl (sym e)) ]
 
 pub walk_member : (L : ℕ) (t : Tri) (m : ℕ) → Member (at_level L m) (walk L t m)

@@ -1,5 +1,5 @@
 -- The diamonds that are split where each leaf is to hold at most `cap` triangles.
-use Rattle.std.specs.Prelude.{ℕ, ◌*◌, Bool, List, map, take, nat_lt, filter, flat_map, count_by}
+use Rattle.std.specs.Prelude.{ℕ, ◌*◌, List, map, take, nat_lt, filter, flat_map, count_by}
 use Rattle.tpz_base.specs.declared.shape.Point.{Point}
 use Rattle.tpz_base.specs.Lists.{has}
 use Rattle.tpz_base.specs.Meshes.{Mesh}

@@ -17,6 +17,5 @@ pub use near::nearest;
 pub use plane::side;
 pub use root::root_of;
 
-
 #[cfg(test)]
 mod tests;

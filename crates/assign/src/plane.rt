@@ -2,28 +2,40 @@
 //
 // The plane that bisects a tetrahedron stands upright on the steps of its bisected edge along the axes, but for the middle step where there are
 // three. So the side of a point is the sign of a sum of coordinates, and no determinant is computed.
-ghost use Rattle.std.specs.Prelude.{ℕ, ◌≡◌, ◌<◌, ◌≤◌, ◌+◌, ◌*◌, ◌/◌, ◌^◌, pos, ◌+ℤ◌, int_lt, unsigned_abs, IfSome};
+ghost use Rattle.std.specs.Prelude.{ℕ, ◌≡◌, ◌<◌, ◌≤◌, ◌+◌, ◌*◌, ◌^◌, pos, ◌+ℤ◌, int_lt, unsigned_abs, IfSome};
 ghost use Rattle.std.specs.Option.{option_map};
 ghost use Rattle.tpz_base.specs.Diamonds.{level_of};
-ghost use Rattle.tetra_name.specs.Names.{child_of, point_of, tetrahedron_of, IsBound, IsName};
-ghost use Rattle.assign.specs.Leans.{lean as lean_of, outer as outer_of};
+ghost use Rattle.tetra_name.specs.Names.{child_of, over, point_of, tetrahedron_of, IsBound, IsName};
+ghost use Rattle.assign.specs.Leans.{lean as lean_of, middle_axis as middle_axis_of, outer as outer_of};
 ghost use Rattle.assign.specs.Paths.{entered, is_beyond as is_beyond_of, side_of};
 
 use crate::sum::corner_sum;
-use tetra_name::{Half, Tet, corners, level};
+use tetra_name::{Half, Tet, level};
 use tpz_base::Tri;
+
+/// The centre in units of 2^power half-units.
+#[inline]
+#[tactic(auto, unfolding(tetra_name::specs::Names::over))]
+fn in_units(c: Half, power: u8) -> Half
+    requires { power < 32 }
+    ensures { point_of result ≡ over power (point_of c) }
+{
+    Half {
+        x: c.x >> power,
+        y: c.y >> power,
+        z: c.z >> power,
+    }
+}
 
 /// How far the barycentre is ahead of the midpoint of the bisected edge on one axis, counted in the edge's direction and six times as large, in
 /// half-units. It is 0 where the edge doesn't run along the axis.
 #[inline]
 #[tactic(auto, unfolding(crate::specs::Leans::lean))]
-fn lean(sum: u64, middle: u32, power: u8) -> i64
-    requires sum { sum < 3 * 2 ^ 32 }
-    requires power { power < 32 }
-    ensures value { result ≡ lean_of sum middle (middle / 2 ^ power) }
+fn lean(sum: u64, middle: u32, unit: u32) -> i64
+    requires { sum < 3 * 2 ^ 32 }
+    ensures value { result ≡ lean_of sum middle unit }
     ensures bound { unsigned_abs result ≤ 2 ^ 35 }
 {
-    let unit = middle >> power;
     if unit % 2 == 0 {
         0
     } else if unit % 4 == 1 {
@@ -33,21 +45,37 @@ fn lean(sum: u64, middle: u32, power: u8) -> i64
     }
 }
 
-/// The sum on the two axes on which the two points agree.
+/// The axis of the middle one of three steps, by the directions of the diagonal along x and y and the slot. The steps are in the order x, y and
+/// z forwards, then z, y and x backwards, so the direction along z doesn't matter.
+const MIDDLE_AXES: [u8; 24] = [
+    1, 2, 0, 2, 0, 1, 2, 0, 1, 0, 1, 2, 2, 1, 0, 1, 0, 2, 1, 0, 2, 0, 2, 1,
+];
+
+/// The axis of the middle step of the tetrahedron at a slot of a cube.
+#[inline]
+#[tactic(auto, unfolding(crate::specs::Leans::middle_axis, crate::specs::Leans::middle_axes))]
+fn middle_axis(unit: Half, slot: u8) -> u8
+    requires { slot < 6 }
+    ensures { result ≡ middle_axis_of (point_of unit) slot }
+{
+    let x = unit.x % 4 / 2;
+    let y = unit.y % 4 / 2;
+    MIDDLE_AXES[6 * (x + 2 * y) as usize + slot as usize]
+}
+
+/// The sum on the two other axes.
 #[inline]
 #[tactic(auto, unfolding(crate::specs::Leans::outer))]
-fn outer(p: Half, q: Half, x: i64, y: i64, z: i64) -> i64
+fn outer(axis: u8, x: i64, y: i64, z: i64) -> i64
     requires x { unsigned_abs x ≤ 2 ^ 35 }
     requires y { unsigned_abs y ≤ 2 ^ 35 }
     requires z { unsigned_abs z ≤ 2 ^ 35 }
-    ensures { result ≡ outer_of (point_of p) (point_of q) x y z }
+    ensures { result ≡ outer_of axis x y z }
 {
-    if p.x != q.x {
-        y + z
-    } else if p.y != q.y {
-        x + z
-    } else {
-        x + y
+    match axis {
+        0 => y + z,
+        1 => x + z,
+        _ => x + y,
     }
 }
 
@@ -78,14 +106,14 @@ fn is_beyond(name: Tet, t: &Tri, l: u8) -> bool
 {
     let c = name.centre;
     let depth = level(c, l);
-    let power = l - depth / 3;
+    let unit = in_units(c, l - depth / 3);
     let sum = corner_sum(t);
-    let x = lean(sum.x, c.x, power);
-    let y = lean(sum.y, c.y, power);
-    let z = lean(sum.z, c.z, power);
+    let x = lean(sum.x, c.x, unit.x);
+    let y = lean(sum.y, c.y, unit.y);
+    let z = lean(sum.z, c.z, unit.z);
     if depth % 3 == 0 {
-        let at = corners(name, l);
-        is_positive(outer(at[1], at[2], x, y, z))
+        let axis = middle_axis(unit, name.slot);
+        is_positive(outer(axis, x, y, z))
     } else {
         is_positive(total(x, y, z))
     }

@@ -18,9 +18,21 @@ fn half(x: u32, y: u32, z: u32) -> Half {
 /// A triangle in the plane z = 0.
 fn flat(a: (u32, u32), b: (u32, u32), c: (u32, u32)) -> Tri {
     Tri {
-        a: Point { x: a.0, y: a.1, z: 0 },
-        b: Point { x: b.0, y: b.1, z: 0 },
-        c: Point { x: c.0, y: c.1, z: 0 },
+        a: Point {
+            x: a.0,
+            y: a.1,
+            z: 0,
+        },
+        b: Point {
+            x: b.0,
+            y: b.1,
+            z: 0,
+        },
+        c: Point {
+            x: c.0,
+            y: c.1,
+            z: 0,
+        },
     }
 }
 
@@ -46,12 +58,24 @@ fn triangles_of_worked_meshes_come_to_their_leaves(rt: HostRuntime) -> Result<()
         (flat((0, 4), (0, 0), (2, 2)), 2, half(0, 4, 0)),
     ] {
         assert_eq!(rt; root_of(&t), slot);
-        assert_eq!(rt; leaf_of(&whole, &t), Tet { centre: half(4, 4, 4), slot });
+        assert_eq!(rt;
+            leaf_of(&whole, &t),
+            Tet {
+                centre: half(4, 4, 4),
+                slot
+            }
+        );
         assert_eq!(rt; leaf_of(&split, &t).centre, centre);
     }
     let deep = graph_of(&rt, alloc, 1, half(2, 0, 0))?;
     let on_plane = flat((0, 0), (2, 0), (2, 2));
-    assert_eq!(rt; leaf_of(&deep, &on_plane), Tet { centre: half(3, 1, 1), slot: 4 });
+    assert_eq!(rt;
+        leaf_of(&deep, &on_plane),
+        Tet {
+            centre: half(3, 1, 1),
+            slot: 4
+        }
+    );
     Ok(())
 }
 
@@ -99,8 +123,14 @@ fn the_nearest_member_is_the_lowest_of_those_that_tie(rt: HostRuntime) {
 fn a_table_gives_what_was_set_last(rt: HostRuntime) -> Result<(), Fail> {
     let mut streams = Streams::new(rt.alloc(), 0, 2);
     let (first, second) = (streams.make()?, streams.make()?);
-    let name = Tet { centre: half(4, 4, 4), slot: 3 };
-    let other = Tet { centre: half(4, 4, 4), slot: 4 };
+    let name = Tet {
+        centre: half(4, 4, 4),
+        slot: 3,
+    };
+    let other = Tet {
+        centre: half(4, 4, 4),
+        slot: 4,
+    };
     let mut leaves = Leaves::new(rt.alloc());
     assert_eq!(rt; leaves.stream(name), None);
     assert_eq!(rt; leaves.set(name, first), Ok(()));
