@@ -6,6 +6,7 @@ pub mod Exports
 pub mod ReadLemmas
 pub mod LeafOrder
 pub mod RootCut
+pub mod Filling
 pub mod WorkedWords
 pub mod Parses
 pub mod Givens

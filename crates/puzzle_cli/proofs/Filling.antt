@@ -1,0 +1,74 @@
+-- A stream to which triangles are added one by one.
+use Rattle.std.proofs.Common.{◌≡◌, ◌≢◌, ℕ, ◌+◌, ◌<◌, List, [], ◌∷◌, ◌++◌, take, length, get_or, refl, sym, ◌∙◌, ap, ap₂, subst, arith, append_assoc, append-nil, add-zero, Option, Some, None}
+use Rattle.std.specs.Prelude.{is_some, IsSome}
+use Rattle.std.specs.Option.{ForSome, option_map}
+use Rattle.std.proofs.lemmas.List.{take_more, length-take}
+use Rattle.tpz_base.specs.declared.shape.Tri.{Tri}
+use Rattle.tpz_base.specs.Meshes.{Mesh}
+use Rattle.tpz_base.specs.Texts.{Bytes}
+use Rattle.tri_stream.specs.declared.names.StreamId.{StreamId}
+use Rattle.tri_stream.specs.Streams.{StreamsState, count_of, told_list, total, IsLive, Keeps, LeavesOthers, Stands}
+use Rattle.puzzle_cli.specs.Leaves.{Fills}
+
+nothing_added : (o : Option Mesh) → o ≡ option_map (λ M. M ++ []) o
+nothing_added None = refl
+nothing_added (Some M) = ap Some (sym (append-nil M))
+
+none_counted : (o : Option ℕ) → o ≡ option_map (λ n. n + 0) o
+none_counted None = refl
+none_counted (Some n) = ap Some (sym (add-zero n))
+
+pub fills_none : (id : StreamId) (s : StreamsState) (told : Option Bytes) → ForSome told (Stands s) → Fills id [] s s told told
+fills_none id s told stands = record {
+  list = nothing_added (told_list s told id);
+  count = none_counted (count_of s id);
+  others = λ x other. refl;
+  total = sym (add-zero (total s));
+  l = refl;
+  stands = stands;
+  telling = refl;
+}
+
+one_added : (a b c : Option Mesh) (M : Mesh) (t : Tri) → b ≡ option_map (λ l. l ++ M) a → c ≡ option_map (λ l. l ++ t ∷ []) b
+    → c ≡ option_map (λ l. l ++ (M ++ t ∷ [])) a
+one_added None b c M t first second = second ∙ ap (option_map (λ l. l ++ t ∷ [])) first
+one_added (Some l) b c M t first second = second ∙ ap (option_map (λ l. l ++ t ∷ [])) first ∙ ap Some (append_assoc l M (t ∷ []))
+
+one_counted : (a b c : Option ℕ) (k : ℕ) → b ≡ option_map (λ n. n + k) a → c ≡ option_map (λ n. n + 1) b → c ≡ option_map (λ n. n + (k + 1)) a
+one_counted None b c k first second = second ∙ ap (option_map (λ n. n + 1)) first
+one_counted (Some n) b c k first second =
+    let sum : n + k + 1 ≡ n + (k + 1) = omega arith in
+    second ∙ ap (option_map (λ n. n + 1)) first ∙ ap Some sum
+
+-- one triangle more
+pub fills_more : (id : StreamId) (tris : Mesh) (i : ℕ) (d : Tri) (s0 s1 s2 : StreamsState) (x y z : Option Bytes) → i < length tris
+    → Fills id (take i tris) s0 s1 x y
+    → count_of s2 id ≡ option_map (λ n. n + 1) (count_of s1 id)
+    → told_list s2 z id ≡ option_map (λ list. list ++ get_or tris i d ∷ []) (told_list s1 y id)
+    → LeavesOthers id s1 s2 y z → total s2 ≡ total s1 + 1 → Keeps s1 s2 y z
+    → Fills id (take (i + 1) tris) s0 s2 x z
+fills_more id tris i d s0 s1 s2 x y z below so_far count list others more kept =
+    let next : take (i + 1) tris ≡ take i tris ++ get_or tris i d ∷ [] = take_more tris i d below in
+    let short : length (take i tris) ≡ i = length_taken i below in
+    let long : length (take (i + 1) tris) ≡ i + 1 = length_taken (i + 1) (omega arith) in
+    record {
+      list = subst (λ (M : Mesh). told_list s2 z id ≡ option_map (λ l. l ++ M) (told_list s0 x id)) (sym next)
+          (one_added (told_list s0 x id) (told_list s1 y id) (told_list s2 z id) (take i tris) (get_or tris i d) so_far.list list);
+      count = subst (λ (k : ℕ). count_of s2 id ≡ option_map (λ n. n + k) (count_of s0 id)) (sym long)
+          (one_counted (count_of s0 id) (count_of s1 id) (count_of s2 id) i (subst (λ (k : ℕ). count_of s1 id ≡ option_map (λ n. n + k) (count_of s0 id)) short so_far.count) count);
+      others = λ w other. others.counts w other ∙ so_far.others w other;
+      total = omega (arith, more, so_far.total, short, long);
+      l = kept.l ∙ so_far.l;
+      stands = kept.stands;
+      telling = kept.front.same_telling ∙ so_far.telling;
+    }
+  where
+    length_taken : (k : ℕ) → k < length tris + 1 → length (take k tris) ≡ k
+    length_taken k h = omega (arith, length-take k tris)
+
+live_count : (o o' : Option ℕ) (k : ℕ) → o' ≡ option_map (λ n. n + k) o → IsSome o → IsSome o'
+live_count None o' k is live = absurd cc
+live_count (Some n) o' k is live = rw is refl
+
+pub still_live : (id : StreamId) (tris : Mesh) (s0 s1 : StreamsState) (x y : Option Bytes) → Fills id tris s0 s1 x y → IsLive s0 id → IsLive s1 id
+still_live id tris s0 s1 x y fills live = live_count (count_of s0 id) (count_of s1 id) (length tris) fills.count live
