@@ -51,7 +51,7 @@ items_cong : (digits digits' : ℕ) (low low' : Row) (M M' : Mesh) (tris tris' d
 items_cong digits digits' low low' M M' tris tris' dropped dropped' d p q r s = cc
 
 -- what is told of a mesh that was read
-pub facts_of : InputMesh → Facts
+abbrev pub facts_of : InputMesh → Facts
 facts_of mesh = record { digits = mesh.digits; low = mesh.low; tris = length mesh.tris.items; dropped = mesh.dropped }
 
 mesh_cong : (cap : Option ℕ) (l l' : ℕ) (M M' : Mesh) → l ≡ l' → M ≡ M' → mesh_for cap l M ≡ mesh_for cap l' M'

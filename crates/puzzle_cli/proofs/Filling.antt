@@ -1,5 +1,5 @@
 -- A stream to which triangles are added one by one.
-use Rattle.std.proofs.Common.{◌≡◌, ◌≢◌, ℕ, ◌+◌, ◌<◌, List, [], ◌∷◌, ◌++◌, take, length, get_or, refl, sym, ◌∙◌, ap, ap₂, subst, arith, append_assoc, append-nil, add-zero, Option, Some, None}
+use Rattle.std.proofs.Common.{◌≡◌, ◌≢◌, ℕ, ◌+◌, ◌<◌, ◌≤◌, List, [], ◌∷◌, ◌++◌, take, length, get_or, refl, sym, ◌∙◌, ap, ap₂, subst, arith, append_assoc, append-nil, add-zero, Option, Some, None}
 use Rattle.std.specs.Prelude.{is_some, IsSome}
 use Rattle.std.specs.Option.{ForSome, option_map}
 use Rattle.std.proofs.lemmas.List.{take_more, length-take}
@@ -49,7 +49,7 @@ pub fills_more : (id : StreamId) (tris : Mesh) (i : ℕ) (d : Tri) (s0 s1 s2 : S
     → Fills id (take (i + 1) tris) s0 s2 x z
 fills_more id tris i d s0 s1 s2 x y z below so_far count list others more kept =
     let next : take (i + 1) tris ≡ take i tris ++ get_or tris i d ∷ [] = take_more tris i d below in
-    let short : length (take i tris) ≡ i = length_taken i below in
+    let short : length (take i tris) ≡ i = length_taken i (omega arith) in
     let long : length (take (i + 1) tris) ≡ i + 1 = length_taken (i + 1) (omega arith) in
     record {
       list = subst (λ (M : Mesh). told_list s2 z id ≡ option_map (λ l. l ++ M) (told_list s0 x id)) (sym next)
@@ -63,7 +63,7 @@ fills_more id tris i d s0 s1 s2 x y z below so_far count list others more kept =
       telling = kept.front.same_telling ∙ so_far.telling;
     }
   where
-    length_taken : (k : ℕ) → k < length tris + 1 → length (take k tris) ≡ k
+    length_taken : (k : ℕ) → k ≤ length tris → length (take k tris) ≡ k
     length_taken k h = omega (arith, length-take k tris)
 
 live_count : (o o' : Option ℕ) (k : ℕ) → o' ≡ option_map (λ n. n + k) o → IsSome o → IsSome o'

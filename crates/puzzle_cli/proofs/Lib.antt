@@ -7,6 +7,8 @@ pub mod ReadLemmas
 pub mod LeafOrder
 pub mod RootCut
 pub mod Filling
+pub mod JobRanges
+pub mod Completing
 pub mod WorkedWords
 pub mod Parses
 pub mod Givens

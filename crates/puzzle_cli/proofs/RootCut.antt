@@ -16,4 +16,4 @@ by_roots L M = finest-none L M ∙ root_mesh_is L M
 pub each_once : (cap : Option ℕ) (L : ℕ) (M : Mesh) → SameTriangles (mesh_for cap L M) M
 unfolding mesh_for
 each_once None L M t = ap (count_by (tri_eq t)) (finest-none L M) ∙ root_mesh_same L M t
-each_once (Some cap) L M = split_finest L cap M
+each_once (Some cap) L M t = split_finest L cap M t

@@ -95,9 +95,12 @@ pub fn run<I: Source, C: Source, W: Blob, S: Blob, O: Out>(
     ensures unread { ¬ (result ≡ Status.Ok) → ¬ (result ≡ Status.OutFault) → ¬ (result ≡ Status.Memory)
         → Wrote [] (O.parts out.old) (O.parts out.new) (O.notes out.old) (O.notes out.new) }
 {
-    match read_words(alloc, words) {
-        Ok(Job::Finest { digits, cap }) => finest::finest(alloc, digits, cap, input, work, out),
-        Err(WordsFault::Usage) => Status::Usage,
-        Err(WordsFault::Memory) => Status::Memory,
+    let job = match read_words(alloc, words) {
+        Ok(job) => job,
+        Err(WordsFault::Usage) => return Status::Usage,
+        Err(WordsFault::Memory) => return Status::Memory,
+    };
+    match job {
+        Job::Finest { digits, cap } => finest::finest(alloc, digits, cap, input, work, out),
     }
 }

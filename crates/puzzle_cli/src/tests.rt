@@ -67,6 +67,12 @@ type Mesh = (u32, u32, &'static str);
 
 const ONE_TRIANGLE: Mesh = (3, 1, "0 0 0\n4 0 0\n0 4 0\n3 0 1 2\n");
 
+const SQUARE: Mesh = (
+    5,
+    4,
+    "0 0 0\n4 0 0\n4 4 0\n0 4 0\n2 2 0\n3 0 1 4\n3 1 2 4\n3 2 3 4\n3 3 0 4\n",
+);
+
 // What is written for an input.
 const WRITTEN: [(&str, Mesh, Mesh, &str); 7] = [
     (
@@ -83,11 +89,7 @@ const WRITTEN: [(&str, Mesh, Mesh, &str); 7] = [
     ),
     (
         "a square of four triangles",
-        (
-            5,
-            4,
-            "0 0 0\n4 0 0\n4 4 0\n0 4 0\n2 2 0\n3 0 1 4\n3 1 2 4\n3 2 3 4\n3 3 0 4\n",
-        ),
+        SQUARE,
         (
             5,
             4,
@@ -129,6 +131,50 @@ const WRITTEN: [(&str, Mesh, Mesh, &str); 7] = [
     ),
 ];
 
+const WIDEST: Mesh = (3, 1, "0 0 0\n1073741824 0 0\n0 1 0\n3 0 1 2\n");
+
+const TWICE: Mesh = (3, 2, "0 0 0\n2 0 0\n2 2 0\n3 0 1 2\n3 0 1 2\n");
+
+// What is written where the words have options.
+const CUT: [(&str, &[&str], Mesh, Mesh, &str); 4] = [
+    (
+        "a square of four triangles, split twice",
+        &["finest", "--cap", "1"],
+        SQUARE,
+        (
+            5,
+            4,
+            "0 0 0\n4 0 0\n2 2 0\n4 4 0\n0 4 0\n3 0 1 2\n3 1 3 2\n3 4 0 2\n3 3 4 2\n",
+        ),
+        "finest tris 4 dropped 0 vertices 5\n",
+    ),
+    (
+        "two triangles at one place, split down to the last level",
+        &["finest", "--digits=0", "--cap=1"],
+        TWICE,
+        TWICE,
+        "finest tris 2 dropped 0 vertices 3\n",
+    ),
+    (
+        "the widest axis in whole units",
+        &["finest", "--digits", "0"],
+        WIDEST,
+        WIDEST,
+        "finest tris 1 dropped 0 vertices 3\n",
+    ),
+    (
+        "a cap that no tetrahedron has",
+        &["finest", "--cap", "4"],
+        SQUARE,
+        (
+            5,
+            4,
+            "0 0 0\n4 0 0\n2 2 0\n4 4 0\n0 4 0\n3 0 1 2\n3 1 3 2\n3 3 4 2\n3 4 0 2\n",
+        ),
+        "finest tris 4 dropped 0 vertices 5\n",
+    ),
+];
+
 fn mesh_text(alloc: Global, mesh: Mesh) -> Result<String, Fail> {
     let (vertices, faces, lines) = mesh;
     Ok(format!(in alloc;
@@ -151,9 +197,22 @@ fn expect_part(
     note: &str,
     name: &str,
 ) -> Result<(), Fail> {
+    expect_words(rt, alloc, &["finest"], bytes, part, note, name)
+}
+
+// The same for these words.
+fn expect_words(
+    rt: &impl Abort,
+    alloc: Global,
+    words: &[&str],
+    bytes: &[u8],
+    part: &[u8],
+    note: &str,
+    name: &str,
+) -> Result<(), Fail> {
     let mut input = source(alloc, bytes, &[])?;
     let mut out = output(alloc, &[])?;
-    let status = run_words(rt, alloc, &["finest"], &mut input, &mut out)?;
+    let status = run_words(rt, alloc, words, &mut input, &mut out)?;
     assert_eq!(rt; status, Status::Ok, "at {name}");
     assert_eq!(rt; out.part_count(), 1, "at {name}");
     assert_eq!(rt; out.part_at(0), part, "at {name}");
@@ -180,9 +239,26 @@ fn a_mesh_is_written_root_by_root(rt: HostRuntime) -> Result<(), Fail> {
 }
 
 #[test]
+fn a_mesh_is_written_leaf_by_leaf(rt: HostRuntime) -> Result<(), Fail> {
+    let alloc = rt.alloc();
+    for (name, words, mesh, part, note) in CUT {
+        let text = mesh_text(alloc, mesh)?;
+        let part = mesh_text(alloc, part)?;
+        expect_words(&rt, alloc, words, text.as_bytes(), part.as_bytes(), note, name)?;
+    }
+    Ok(())
+}
+
+#[test]
 fn other_words_are_refused_without_a_call_of_a_device(rt: HostRuntime) -> Result<(), Fail> {
     let alloc = rt.alloc();
-    let others: [&[&str]; 4] = [&[], &["finset"], &["Finest"], &["finest", "finest"]];
+    let others: [&[&str]; 5] = [
+        &[],
+        &["finset"],
+        &["Finest"],
+        &["finest", "finest"],
+        &["finest", "--cap", "0"],
+    ];
     for words in others {
         let mut input = mesh_source(alloc, ONE_TRIANGLE, &[1])?;
         let mut work = blob(alloc, 0, &[1])?;

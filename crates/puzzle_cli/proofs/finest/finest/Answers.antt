@@ -1,6 +1,10 @@
-use Rattle.std.proofs.Common.{refl, subst, inl, inr}
+-- What was read is written in the order of its cut.
+use Rattle.std.proofs.Common.{◌≤◌, ◌<◌, List, length, refl, subst, inl, inr, ap, Err}
+use Rattle.tpz_base.specs.declared.shape.Point.{Point}
+use Rattle.diamond_graph.specs.Adding.{most_centres}
 use Rattle.puzzle_cli.specs.Statuses.{IsUnread}
-use Rattle.puzzle_cli.proofs.Exports.{as_told, front_as_told}
+use Rattle.puzzle_cli.proofs.Exports.{as_told, front_as_told, split_is}
+use Rattle.puzzle_cli.proofs.ReadLemmas.{told_later}
 use Rattle.puzzle_cli.proofs.finest.finest.Goals as goal
 
 pub returns-in-Err-clause-asked : goal.returns-in-Err-clause-asked
@@ -13,24 +17,63 @@ pub returns-in-Err-clause-accepted : goal.returns-in-Err-clause-accepted
 returns-in-Err-clause-accepted g c = λ h.
     elim h [
       | inl e ↦ absurd (subst (λ s. IsUnread s) e (c.in-Err.ensures.unread c.in-Err.status refl))
+      | inr k ↦ elim k [
+          | inl e ↦ absurd (subst (λ s. IsUnread s) e (c.in-Err.ensures.unread c.in-Err.status refl))
+          | inr e ↦ absurd (subst (λ s. IsUnread s) e (c.in-Err.ensures.unread c.in-Err.status refl))
+        ]
+    ]
+
+pub returns-in-Err-clause-few : goal.returns-in-Err-clause-few
+returns-in-Err-clause-few g c = λ h.
+    elim h [
+      | inl e ↦ absurd (subst (λ s. IsUnread s) e (c.in-Err.ensures.unread c.in-Err.status refl))
       | inr e ↦ absurd (subst (λ s. IsUnread s) e (c.in-Err.ensures.unread c.in-Err.status refl))
     ]
+
+pub returns-in-Err-clause-too_many : goal.returns-in-Err-clause-too_many
+returns-in-Err-clause-too_many g c = λ e. absurd (subst (λ s. IsUnread s) e (c.in-Err.ensures.unread c.in-Err.status refl))
 
 pub returns-in-Err-clause-out_fault : goal.returns-in-Err-clause-out_fault
 returns-in-Err-clause-out_fault g c = λ e. absurd (subst (λ s. IsUnread s) e (c.in-Err.ensures.unread c.in-Err.status refl))
 
+pub returns-in-Err-number-clause-too_many : goal.returns-in-Err-number-clause-too_many
+returns-in-Err-number-clause-too_many g c = λ e bytes told held keeps rows faces is.
+    let (later, kept) = told_later _ _ held c.read_mesh.ensures.telling keeps in
+    subst (λ (F : List Point). most_centres < length F) (split_is c.args.cap c.in-Ok.mesh _ rows faces (c.in-Ok.ensures.mesh bytes told held keeps rows faces is))
+    (c.in-Err-number.ensures.too_many (ap Err e) later kept)
+
 pub returns-in-Ok-export-clause-ok : goal.returns-in-Ok-export-clause-ok
 returns-in-Ok-export-clause-ok g c = λ _ bytes told held keeps rows faces is.
-    as_told c.in-Ok.mesh _ _ _ _ _ rows faces (c.in-Ok.ensures.mesh bytes told held keeps rows faces is) c.in-Ok-export.ensures.ok
+    let (later, kept) = told_later _ _ held c.read_mesh.ensures.telling keeps in
+    as_told c.args.cap c.in-Ok.mesh _ _ _ _ _ _ _ rows faces (c.in-Ok.ensures.mesh bytes told held keeps rows faces is) c.facts-facts.ensures
+    (c.in-Ok-number.ensures.mesh later kept) c.in-Ok-export.ensures.ok
+
+pub returns-in-Ok-export-clause-few : goal.returns-in-Ok-export-clause-few
+returns-in-Ok-export-clause-few g c = λ _ bytes told held keeps rows faces is.
+    let (later, kept) = told_later _ _ held c.read_mesh.ensures.telling keeps in
+    subst (λ (F : List Point). length F ≤ most_centres) (split_is c.args.cap c.in-Ok.mesh _ rows faces (c.in-Ok.ensures.mesh bytes told held keeps rows faces is))
+    (c.in-Ok-number.ensures.few later kept)
 
 pub returns-in-Ok-export-clause-front : goal.returns-in-Ok-export-clause-front
 returns-in-Ok-export-clause-front g c = λ bytes told held keeps rows faces is.
-    front_as_told c.in-Ok.mesh _ _ _ _ _ rows faces (c.in-Ok.ensures.mesh bytes told held keeps rows faces is) c.export.ensures.front
+    let (later, kept) = told_later _ _ held c.read_mesh.ensures.telling keeps in
+    front_as_told c.args.cap c.in-Ok.mesh _ _ _ _ _ _ _ rows faces (c.in-Ok.ensures.mesh bytes told held keeps rows faces is) c.facts-facts.ensures
+    (c.in-Ok-number.ensures.mesh later kept) c.export.ensures.front
+
+pub returns-in-Err-OutFault-clause-few : goal.returns-in-Err-OutFault-clause-few
+returns-in-Err-OutFault-clause-few g c = λ _ bytes told held keeps rows faces is.
+    let (later, kept) = told_later _ _ held c.read_mesh.ensures.telling keeps in
+    subst (λ (F : List Point). length F ≤ most_centres) (split_is c.args.cap c.in-Ok.mesh _ rows faces (c.in-Ok.ensures.mesh bytes told held keeps rows faces is))
+    (c.in-Ok-number.ensures.few later kept)
 
 pub returns-in-Err-OutFault-clause-front : goal.returns-in-Err-OutFault-clause-front
 returns-in-Err-OutFault-clause-front g c = λ bytes told held keeps rows faces is.
-    front_as_told c.in-Ok.mesh _ _ _ _ _ rows faces (c.in-Ok.ensures.mesh bytes told held keeps rows faces is) c.export.ensures.front
+    let (later, kept) = told_later _ _ held c.read_mesh.ensures.telling keeps in
+    front_as_told c.args.cap c.in-Ok.mesh _ _ _ _ _ _ _ rows faces (c.in-Ok.ensures.mesh bytes told held keeps rows faces is) c.facts-facts.ensures
+    (c.in-Ok-number.ensures.mesh later kept) c.export.ensures.front
 
-pub returns-in-Err-Memory-clause-front : goal.returns-in-Err-Memory-clause-front
-returns-in-Err-Memory-clause-front g c = λ bytes told held keeps rows faces is.
-    front_as_told c.in-Ok.mesh _ _ _ _ _ rows faces (c.in-Ok.ensures.mesh bytes told held keeps rows faces is) c.export.ensures.front
+pub returns-clause-front : goal.returns-clause-front
+returns-clause-front g c = λ bytes told held keeps rows faces is.
+    let (later, kept) = told_later _ _ held c.read_mesh.ensures.telling keeps in
+    front_as_told c.args.cap c.in-Ok.mesh _ _ _ _ _ _ _ rows faces (c.in-Ok.ensures.mesh bytes told held keeps rows faces is) c.facts-facts.ensures
+    (c.in-Ok-number.ensures.mesh later kept) c.export.ensures.front

@@ -1,3 +1,4 @@
+use Rattle.std.specs.Option.{unwrap_or}
 use Rattle.std.proofs.Common.{refl, sym, ◌∙◌, ap, subst, Err}
 use Rattle.tpz_base.specs.Cubes.{low_of}
 use Rattle.ply_body.specs.Inputs.{InHead, InBody}
@@ -20,7 +21,7 @@ returns-in-Err-load_points-clause-refused g c = λ status is refused bytes told.
     let same = same_status _ status _ is c.status_of_body.ensures in
     let refusal = refusal_of_body f (subst (λ s. IsRefused s) same refused) in (
       InBody f,
-      input_by c.args.digits c.in-Ok.head _ _ _ _ bytes _ c.in-Ok.ensures.read c.default_digits-digits.ensures c.in_ok-faces.ensures told
+      input_by c.args.digits c.in-Ok.head _ _ _ _ bytes _ c.in-Ok.ensures.read (c.unwrap_or-digits.ensures ∙ ap (unwrap_or c.args.digits) c.default_digits.ensures) c.in_ok-faces.ensures told
           (c.in-Err-load_points.ensures.refused f refl refusal),
       same,
     )
@@ -40,7 +41,7 @@ returns-in-Err-read_tris-clause-refused g c = λ status is refused bytes told.
     let read = c.in-Ok-load_points.ensures.rows in
     let same = same_status _ status _ is refl in
     let last = c.in-Err-read_tris.ensures.refused c.in-Err-read_tris.status refl (subst (λ s. IsRefused s) same refused) in
-    refused_by c.args.digits c.in-Ok.head _ _ _ _ bytes _ read.0 c.in-Err-read_tris.status status c.in-Ok.ensures.read c.default_digits-digits.ensures
+    refused_by c.args.digits c.in-Ok.head _ _ _ _ bytes _ read.0 c.in-Err-read_tris.status status c.in-Ok.ensures.read (c.unwrap_or-digits.ensures ∙ ap (unwrap_or c.args.digits) c.default_digits.ensures)
     c.in_ok-faces.ensures told read.2 last same
 
 pub returns-in-Err-read_tris-clause-damage : goal.returns-in-Err-read_tris-clause-damage
@@ -52,11 +53,11 @@ pub returns-clause-mesh : goal.returns-clause-mesh
 returns-clause-mesh g c = λ bytes told held keeps rows faces means.
     let read = c.in-Ok-load_points.ensures.rows in
     let tris = c.in-Ok-read_tris.ensures.tris in
-    let is = input_by c.args.digits c.in-Ok.head _ _ _ _ bytes _ c.in-Ok.ensures.read c.default_digits-digits.ensures c.in_ok-faces.ensures told
+    let is = input_by c.args.digits c.in-Ok.head _ _ _ _ bytes _ c.in-Ok.ensures.read (c.unwrap_or-digits.ensures ∙ ap (unwrap_or c.args.digits) c.default_digits.ensures) c.in_ok-faces.ensures told
     (spots_read _ _ read.0 tris.faces read.2 tris.all) in
     let (later, kept) = told_later _ _ held c.load_points.ensures.telling keeps in
     let whole = tris.whole later (c.read_tris.ensures.held ∙ kept) (low_of read.0) read.0 (frame_spots c.in-Ok-load_points.frame read.0 read.1) (read.3 later kept) in
-    mesh_read c.args.digits _ _ bytes rows faces is means read.1.l (c.default_digits-digits.ensures ∙ sym (ap digits_by (c.in-Ok.ensures.read.1.heading bytes told)))
+    mesh_read c.args.digits _ _ bytes rows faces is means read.1.l ((c.unwrap_or-digits.ensures ∙ ap (unwrap_or c.args.digits) c.default_digits.ensures) ∙ sym (ap (digits_by c.args.digits) (c.in-Ok.ensures.read.1.heading bytes told)))
     read.1.low whole.0 (c.dropped.ensures ∙ whole.1)
 
 pub returns-clause-small : goal.returns-clause-small
@@ -73,6 +74,6 @@ returns-clause-accepted g c = λ _ bytes told.
     let read = c.in-Ok-load_points.ensures.rows in
     let tris = c.in-Ok-read_tris.ensures.tris in (
       record { rows = read.0; faces = tris.faces },
-      input_by c.args.digits c.in-Ok.head _ _ _ _ bytes _ c.in-Ok.ensures.read c.default_digits-digits.ensures c.in_ok-faces.ensures told
+      input_by c.args.digits c.in-Ok.head _ _ _ _ bytes _ c.in-Ok.ensures.read (c.unwrap_or-digits.ensures ∙ ap (unwrap_or c.args.digits) c.default_digits.ensures) c.in_ok-faces.ensures told
           (spots_read _ _ read.0 tris.faces read.2 tris.all),
     )
