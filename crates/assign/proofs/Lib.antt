@@ -1,0 +1,9 @@
+pub mod LeafLaw
+pub mod NearLaw
+pub mod Sides
+pub mod DriftLaw
+pub mod SideLaw
+pub mod SideSign
+pub mod Volumes
+pub mod RootLaw
+mod WorkedPaths

@@ -1,0 +1,4 @@
+pub mod Closed
+pub mod Adding
+pub mod Graphs
+pub mod Ranks
