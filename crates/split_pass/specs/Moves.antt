@@ -1,0 +1,41 @@
+-- What moving triangles between streams changes.
+use Rattle.std.specs.Prelude.{◌≡◌, ◌≢◌, ◌≤◌, ℕ, ◌+◌, List, Option}
+use Rattle.std.specs.Option.{ForSome, unwrap_or}
+use Rattle.std.specs.declared.option.Option.TheVariants.{None}
+use Rattle.tri_stream.specs.declared.names.StreamId.{StreamId}
+use Rattle.tri_stream.specs.Streams.{StreamsState, count_of, told_list, total, IsLive, Stands}
+
+-- how many triangles a stream has; 0 where the name isn't live
+abbrev pub size_of : StreamsState → StreamId → ℕ
+size_of s id = unwrap_or (count_of s id) 0
+
+-- The cube is as before, and the bytes that are told are those that the streams left.
+pub record Stays (old new : StreamsState) (now : Option (List ℕ)) : Type 0 where
+  pub base : new.base ≡ old.base
+  pub l : new.l ≡ old.l
+  pub stands : ForSome now (Stands new)
+
+-- Every stream but these two is as before.
+pub record LeavesAllBut (a b : StreamId) (old new : StreamsState) (before now : Option (List ℕ)) : Type 0 where
+  pub counts : (x : StreamId) → x ≢ a → x ≢ b → count_of new x ≡ count_of old x
+  pub lists : (x : StreamId) → x ≢ a → x ≢ b → told_list new now x ≡ told_list old before x
+
+-- One stream has ended, and every other one that was live is as before. There is no other.
+pub record Ends (id : StreamId) (old new : StreamsState) (before now : Option (List ℕ)) : Type 0 where
+  pub ended : count_of new id ≡ None
+  pub counts : (x : StreamId) → x ≢ id → count_of new x ≡ count_of old x
+  pub lists : (x : StreamId) → x ≢ id → IsLive old x → told_list new now x ≡ told_list old before x
+  pub total : total new + size_of old id ≡ total old
+
+-- One stream has become two new ones, and every other one that was live is as before. There is no other.
+pub record Divides (id first second : StreamId) (old new : StreamsState) (before now : Option (List ℕ)) : Type 0 where
+  pub fresh_first : count_of old first ≡ None
+  pub fresh_second : count_of old second ≡ None
+  pub apart : first ≢ second
+  pub live_first : IsLive new first
+  pub live_second : IsLive new second
+  pub sizes : size_of new first + size_of new second ≡ size_of old id
+  pub ended : count_of new id ≡ None
+  pub counts : (x : StreamId) → x ≢ id → x ≢ first → x ≢ second → count_of new x ≡ count_of old x
+  pub lists : (x : StreamId) → x ≢ id → IsLive old x → told_list new now x ≡ told_list old before x
+  pub total : total new ≡ total old
