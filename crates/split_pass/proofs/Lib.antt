@@ -1,1 +1,3 @@
 mod Dividing
+mod Moving
+mod Crowding

@@ -1,9 +1,9 @@
 -- What moving triangles between streams changes.
-use Rattle.std.specs.Prelude.{◌≡◌, ◌≢◌, ◌≤◌, ℕ, ◌+◌, List, Option}
+use Rattle.std.specs.Prelude.{◌≡◌, ◌≢◌, ◌≤◌, ℕ, ◌+◌, List, [], Option}
 use Rattle.std.specs.Option.{ForSome, unwrap_or}
-use Rattle.std.specs.declared.option.Option.TheVariants.{None}
+use Rattle.std.specs.declared.option.Option.TheVariants.{None, Some}
 use Rattle.tri_stream.specs.declared.names.StreamId.{StreamId}
-use Rattle.tri_stream.specs.Streams.{StreamsState, count_of, told_list, total, IsLive, Stands}
+use Rattle.tri_stream.specs.Streams.{StreamsState, count_of, list_of, told_list, total, IsLive, Stands}
 
 -- how many triangles a stream has; 0 where the name isn't live
 abbrev pub size_of : StreamsState → StreamId → ℕ
@@ -39,3 +39,19 @@ pub record Divides (id first second : StreamId) (old new : StreamsState) (before
   pub counts : (x : StreamId) → x ≢ id → x ≢ first → x ≢ second → count_of new x ≡ count_of old x
   pub lists : (x : StreamId) → x ≢ id → IsLive old x → told_list new now x ≡ told_list old before x
   pub total : total new ≡ total old
+
+-- There are two new streams without triangles, and every other one is as before.
+pub record MakesTwo (first second : StreamId) (old new : StreamsState) : Type 0 where
+  pub fresh_first : count_of old first ≡ None
+  pub fresh_second : count_of old second ≡ None
+  pub apart : first ≢ second
+  pub count_first : count_of new first ≡ Some 0
+  pub count_second : count_of new second ≡ Some 0
+  pub counts : (x : StreamId) → x ≢ first → x ≢ second → count_of new x ≡ count_of old x
+  pub total : total new ≡ total old
+  pub stands : (bytes : List ℕ) → Stands old bytes → Stands new bytes
+  pub list_first : (bytes : List ℕ) → Stands old bytes → list_of new bytes first ≡ []
+  pub list_second : (bytes : List ℕ) → Stands old bytes → list_of new bytes second ≡ []
+  pub lists : (told : Option (List ℕ)) → ForSome told (Stands old) → (x : StreamId) → x ≢ first → x ≢ second → told_list new told x ≡ told_list old told x
+  pub base : new.base ≡ old.base
+  pub l : new.l ≡ old.l
