@@ -132,3 +132,16 @@ filled s1 x h M more o none is bytes told =
 pub told_bytes : (s : StreamsState) (x : StreamId) (h : Option (List ℕ)) (M : Mesh) → told_list s h x ≡ Some M → (bytes : List ℕ) × (h ≡ Some bytes)
 told_bytes s x None M is = absurd cc
 told_bytes s x (Some bytes) M is = (bytes, refl)
+
+-- two names are the same or not
+pub same_name : (x y : StreamId) → (x ≡ y) ⊎ (x ≢ y)
+same_name x y =
+    elim (cases_lt x.place y.place) [
+      | inl h ↦ inr (λ same. let p : x.place ≡ y.place = ap (λ (id : StreamId). id.place) same in omega arith)
+      | inr h ↦ elim (cases_lt y.place x.place) [
+          | inl h' ↦ inr (λ same. let p : x.place ≡ y.place = ap (λ (id : StreamId). id.place) same in omega arith)
+          | inr h' ↦
+              let p : x.place ≡ y.place = omega arith in
+              inl (ap (λ (place : ℕ). let id : StreamId = record { place = place } in id) p)
+        ]
+    ]

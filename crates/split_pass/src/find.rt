@@ -3,7 +3,7 @@ ghost use Rattle.std.specs.Prelude.{◌≡◌, ◌≢◌, ◌≤◌, ◌<◌, �
 ghost use Rattle.std.specs.Option.{ForSome};
 ghost use Rattle.tpz_base.specs.declared.shape.Point.{Point};
 ghost use Rattle.tpz_base.specs.Diamonds.{level_of};
-ghost use Rattle.tetra_name.specs.Names.{point_of, tetrahedron_of, IsCentre, IsName};
+ghost use Rattle.tetra_name.specs.Names.{point_of, tetrahedron_of, IsBound, IsCentre, IsName};
 ghost use Rattle.diamond_graph.specs.Closed.{closure};
 ghost use Rattle.diamond_graph.specs.Adding.{most_centres};
 ghost use Rattle.tri_stream.specs.Streams.{told_list, total, IsLive, Stands};
@@ -25,32 +25,36 @@ fn find<B: Blob>(
     work: &mut B,
     closing: &mut Closing,
     name: Tet,
+    l: u8,
     id: StreamId,
     cap: u32,
 ) -> Result<(), SplitFault>
-    requires centre { IsCentre closing.old.l (point_of name.centre) }
-    requires name { IsName closing.old.l name }
+    requires bound { IsBound l }
+    requires l { closing.old.l ≡ l }
+    requires centre { IsCentre l (point_of name.centre) }
+    requires name { IsName l name }
     requires live { IsLive streams.old id }
     requires stands { ForSome (B.held work.old) (Stands streams.old) }
     requires few { total streams.old ≤ 2 ^ 34 }
     ensures ends { OnOk result (Ends id streams.old streams.new (B.held work.old) (B.held work.new)) }
-    ensures found { OnOk result (ForSome (tetrahedron_of closing.old.l name) (λ T. ForSome (told_list streams.old (B.held work.old) id) (λ M.
-        (V : List Point) → closing.old.set ≡ closure closing.old.l V
-        → closing.new.set ≡ closure closing.old.l (with_crowded (3 * closing.old.l - level_of closing.old.l (point_of name.centre)) cap T M V)))) }
-    ensures too_many { result ≡ Err SplitFault.TooManyRecords → ForSome (tetrahedron_of closing.old.l name) (λ T. ForSome (told_list streams.old (B.held work.old) id) (λ M.
-        (V : List Point) → closing.old.set ≡ closure closing.old.l V
-        → most_centres < length (closure closing.old.l (with_crowded (3 * closing.old.l - level_of closing.old.l (point_of name.centre)) cap T M V)))) }
-    ensures l { closing.new.l ≡ closing.old.l }
+    ensures found { OnOk result (ForSome (tetrahedron_of l name) (λ T. ForSome (told_list streams.old (B.held work.old) id) (λ M.
+        (V : List Point) → closing.old.set ≡ closure l V
+        → closing.new.set ≡ closure l (with_crowded (3 * l - level_of l (point_of name.centre)) cap T M V)))) }
+    ensures too_many { result ≡ Err SplitFault.TooManyRecords → ForSome (tetrahedron_of l name) (λ T. ForSome (told_list streams.old (B.held work.old) id) (λ M.
+        (V : List Point) → closing.old.set ≡ closure l V
+        → most_centres < length (closure l (with_crowded (3 * l - level_of l (point_of name.centre)) cap T M V)))) }
+    ensures l { closing.new.l ≡ l }
     ensures stays { Stays streams.old streams.new (B.held work.new) }
     ensures later { B.faults work.old ≤ B.faults work.new }
 {
-    let l = closing.l();
     if streams.count(id) <= u64::from(cap) || level(name.centre, l) == 3 * l {
         streams.give_back(work, id)?;
         return Ok(());
     }
     closing.add_closed(name.centre)?;
     let halves = divide(streams, work, name, l, id)?;
-    find(streams, work, closing, child(name, 0, l), halves.first, cap)?;
-    find(streams, work, closing, child(name, 1, l), halves.second, cap)
+    let first = child(name, 0, l);
+    find(streams, work, closing, first, l, halves.first, cap)?;
+    let second = child(name, 1, l);
+    find(streams, work, closing, second, l, halves.second, cap)
 }

@@ -5,4 +5,4 @@ use Rattle.tetra_name.specs.Names.{point_of}
 use Rattle.split_pass.proofs.find.+find.Given as goal
 
 abbrev pub decreases-find : goal.decreases-find
-decreases-find g l = 3 * l.closing.now.l - level_of l.closing.now.l (point_of l.name.centre)
+decreases-find g l = 3 * l.l - level_of l.l (point_of l.name.centre)
