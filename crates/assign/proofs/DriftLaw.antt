@@ -1,6 +1,6 @@
 -- The sum of coordinates that the code compares with 0 has the sign of the side.
-use Rattle.std.proofs.Common.{◌≡◌, ◌<◌, ◌≤◌, ℕ, zero, suc, ◌+◌, ◌-◌, ◌*◌, ◌/◌, ◌%◌, ◌^◌, Bool, true, false, List, [], ◌∷◌, map, cond, refl, sym, ◌∙◌, ap, ap₂, subst, arith, pow_pos}
-use Rattle.std.specs.Prelude.{ℤ, pos, ◌+ℤ◌, ◌-ℤ◌, int_lt, ◌==◌, filter, slice_get, Option, Some, None, IfSome}
+use Rattle.std.proofs.Common.{◌≡◌, ◌<◌, ◌≤◌, ℕ, zero, suc, ◌+◌, ◌-◌, ◌*◌, ◌/◌, ◌%◌, ◌^◌, Bool, true, false, List, [], ◌∷◌, map, refl, sym, ◌∙◌, ap, ap₂, subst, arith, pow_pos}
+use Rattle.std.specs.Prelude.{ℤ, pos, ◌+ℤ◌, ◌-ℤ◌, int_lt, ◌==◌, filter, slice_get, IfSome}
 use Rattle.std.proofs.Common.{w64, to_z, of_z}
 use Rattle.std.specs.Prelude.{unsigned_abs}
 use Rattle.std.proofs.lemmas.Int.{ints, to_z-of_z, fits_signed_from_abs}
@@ -17,17 +17,16 @@ use Rattle.tpz_base.proofs.PointLemmas.{point_cong}
 use Rattle.tpz_base.proofs.AxisPaths.{Order, xyz, xzy, yxz, yzx, zxy, zyx, along}
 use Rattle.tetra_name.specs.declared.shape.Half.{Half}
 use Rattle.tetra_name.specs.declared.shape.Tet.{Tet}
-use Rattle.tetra_name.specs.Names.{IsCentre, IsName, corners_of, point_of, tetrahedron_of}
+use Rattle.tetra_name.specs.Names.{IsName, corners_of, point_of, tetrahedron_of}
 use Rattle.tetra_name.specs.Places.{IsScale, IsPlace}
 use Rattle.std.specs.List.{slice_index_or}
 use Rattle.tetra_name.specs.Steps.{cube_corners, face_corners, edge_corners, is_member, long_axes, pairs, start, finish, corners_at, member_at}
-use Rattle.tetra_name.proofs.Units.{UnitOf}
 use Rattle.tetra_name.proofs.NamesLaw.{unit_of_centre, axes_within}
 use Rattle.tetra_name.proofs.NameFacts.{some_of}
 use Rattle.tetra_name.proofs.Flags.{spot, cube_list, face_list, edge_list}
 use Rattle.tetra_name.proofs.Closed.{way, start_up, start_down, finish_up, finish_down, scale-along, cube_is, face_is, edge_is, cube_kind, face_kind, edge_kind}
-use Rattle.tetra_name.proofs.Directions.{first, second, third, shifted, by_order, Along}
-use Rattle.tetra_name.proofs.Children.{CubeParts, FaceParts, EdgeParts, cube_parts, face_parts, edge_parts}
+use Rattle.tetra_name.proofs.Directions.{shifted, by_order}
+use Rattle.tetra_name.proofs.Children.{cube_parts, face_parts, edge_parts}
 use Rattle.tetra_name.proofs.ChildLaw.{may_back}
 use Rattle.tetra_name.proofs.PlaceLaw.{centre_of_name, corners_in, has_pair, picked, stands, level_of_scale, box_of_scale}
 use Rattle.assign.specs.Leans.{lean, outer}

@@ -1,11 +1,11 @@
 -- On the way down the first tetrahedron whose diamond isn't in the set is still to come.
-use Rattle.std.proofs.Common.{◌≡◌, ◌<◌, ◌≤◌, ℕ, zero, suc, ◌+◌, ◌-◌, ◌*◌, Bool, true, false, cond, not, List, [], ◌∷◌, refl, sym, ◌∙◌, ap, subst, arith}
-use Rattle.std.specs.Prelude.{find, Option, Some, None, IsSome}
+use Rattle.std.proofs.Common.{◌≡◌, ◌<◌, ◌≤◌, ℕ, zero, suc, ◌-◌, ◌*◌, Bool, true, false, cond, not, List, refl, sym, ◌∙◌, ap, subst, arith}
+use Rattle.std.specs.Prelude.{find, Some}
 use Rattle.std.specs.Option.{option_map}
 use Rattle.tpz_base.specs.declared.shape.Point.{Point}
 use Rattle.tpz_base.specs.declared.shape.Tri.{Tri}
 use Rattle.tpz_base.specs.Roots.{root_of}
-use Rattle.tpz_base.specs.Tetrahedra.{Tetrahedron, diamond, child_0, child_1, descendants, members, roots}
+use Rattle.tpz_base.specs.Tetrahedra.{Tetrahedron, diamond, child_0, child_1, members}
 use Rattle.tpz_base.specs.Cuts.{has_diamond}
 use Rattle.tpz_base.specs.Diamonds.{level_of}
 use Rattle.tpz_base.proofs.Members.{member_named}

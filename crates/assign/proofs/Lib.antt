@@ -1,3 +1,7 @@
+pub mod PathLaw
+pub mod FinestCut
+pub mod SplitLaw
+pub mod TableLaw
 pub mod LeafLaw
 pub mod NearLaw
 pub mod Sides

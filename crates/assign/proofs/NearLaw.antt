@@ -1,9 +1,8 @@
 -- The nearest of the first members.
-use Rattle.std.proofs.Common.{◌≡◌, ◌<◌, ◌≤◌, ℕ, zero, suc, ◌+◌, ◌*◌, Bool, true, false, cond, List, [], ◌∷◌, map, take, length, refl, sym, ◌∙◌, ap, ap₂, subst, arith}
-use Rattle.std.specs.Prelude.{max, nat_lt, fold, Option, Some, None, IsSome, IfSome, slice_get}
+use Rattle.std.proofs.Common.{◌≡◌, ◌<◌, ◌≤◌, ℕ, zero, suc, ◌+◌, Bool, true, false, List, [], ◌∷◌, map, take, length, refl, sym, ◌∙◌, ap, ap₂, subst, arith}
+use Rattle.std.specs.Prelude.{nat_lt, fold, Option, Some, None, IfSome, slice_get}
 use Rattle.std.specs.List.{reduce, slice_index_or}
 use Rattle.std.specs.Option.{option_map_or}
-use Rattle.std.proofs.lemmas.Bool.{cases_Bool}
 use Rattle.tpz_base.specs.declared.shape.Point.{Point}
 use Rattle.tpz_base.specs.declared.shape.Tri.{Tri}
 use Rattle.tpz_base.specs.Points.{point, point_add, point_scale, max_dist}
@@ -12,7 +11,6 @@ use Rattle.tpz_base.specs.Tetrahedra.{Tetrahedron, corner, members}
 use Rattle.tetra_name.specs.declared.shape.Half.{Half}
 use Rattle.tetra_name.specs.declared.shape.Tet.{Tet}
 use Rattle.tetra_name.specs.Names.{corners_of, count_of, point_of, tetrahedron_of, IsCentre}
-use Rattle.tetra_name.proofs.NameFacts.{some_is}
 use Rattle.assign.specs.declared.near.Near.{Near}
 use Rattle.assign.specs.Leaf.{centre_dist, nearer, nearest}
 use Rattle.assign.specs.Near.{nearer_of, IsNearest}

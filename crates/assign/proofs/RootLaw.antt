@@ -1,10 +1,10 @@
 -- The root at the slot that the order of the coordinates tells.
-use Rattle.std.proofs.Common.{◌≡◌, ◌<◌, ℕ, Bool, true, false, cond, [], refl, sym, ◌∙◌, ap, leb, arith}
-use Rattle.std.specs.Prelude.{Option, Some}
+use Rattle.std.proofs.Common.{◌≡◌, ℕ, Bool, true, false, cond, [], refl, ◌∙◌, ap, leb}
+use Rattle.std.specs.Prelude.{Some}
 use Rattle.std.specs.List.{slice_index_or}
 use Rattle.tpz_base.specs.declared.shape.Tri.{Tri}
 use Rattle.tpz_base.specs.Roots.{corner_sum, root_slot, root_of}
-use Rattle.tpz_base.specs.Tetrahedra.{Tetrahedron, roots}
+use Rattle.tpz_base.specs.Tetrahedra.{roots}
 use Rattle.tetra_name.specs.Names.{root_at}
 
 by_tests : (L : ℕ) (b1 b2 b3 b4 b5 : Bool) → let i : ℕ = cond b1 (cond b2 0 (cond b3 1 4)) (cond b4 2 (cond b5 3 5)) in

@@ -1,12 +1,12 @@
 -- The side of the bisecting plane, of each of the three kinds of tetrahedra.
-use Rattle.std.proofs.Common.{◌≡◌, ◌<◌, ℕ, zero, suc, ◌+◌, ◌-◌, ◌*◌, ◌%◌, Bool, true, false, not, List, [], ◌∷◌, map, refl, sym, ◌∙◌, ap, ap₂, subst, arith}
-use Rattle.std.specs.Prelude.{ℤ, pos, neg_ℤ, ◌+ℤ◌, ◌-ℤ◌, ◌*ℤ◌, int_lt}
+use Rattle.std.proofs.Common.{◌≡◌, ◌<◌, ℕ, zero, suc, ◌+◌, ◌-◌, ◌*◌, ◌%◌, Bool, true, false, not, [], ◌∷◌, map, refl, ◌∙◌, ap, ap₂, arith}
+use Rattle.std.specs.Prelude.{ℤ, pos, ◌+ℤ◌, ◌-ℤ◌, ◌*ℤ◌, int_lt}
 use Rattle.std.proofs.lemmas.Int.{ints}
 use Rattle.tpz_base.specs.declared.shape.Point.{Point}
 use Rattle.tpz_base.specs.declared.shape.Tri.{Tri}
 use Rattle.tpz_base.specs.Points.{point_scale, midpoint, det}
 use Rattle.tpz_base.specs.Roots.{corner_sum}
-use Rattle.tpz_base.specs.Tetrahedra.{Tetrahedron, corner, tag, diamond}
+use Rattle.tpz_base.specs.Tetrahedra.{Tetrahedron, corner, tag}
 use Rattle.tpz_base.proofs.AxisPaths.{Order, xyz, xzy, yxz, yzx, zxy, zyx, along}
 use Rattle.tetra_name.specs.Steps.{start, finish}
 use Rattle.tetra_name.proofs.Flags.{spot, cube_list, face_list, edge_list, middle, twice, four}

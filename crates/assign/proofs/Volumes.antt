@@ -1,6 +1,6 @@
 -- Determinants whose rows are steps along the axes, by whole numbers that are read as differences of natural ones.
-use Rattle.std.proofs.Common.{◌≡◌, ◌<◌, ℕ, zero, suc, ◌+◌, ◌*◌, Bool, true, false, not, refl, sym, ◌∙◌, ap, ap₂, arith}
-use Rattle.std.specs.Prelude.{ℤ, pos, negsuc, neg_ℤ, ◌+ℤ◌, ◌-ℤ◌, ◌*ℤ◌, int_lt}
+use Rattle.std.proofs.Common.{◌≡◌, ℕ, ◌+◌, ◌*◌, Bool, true, false, not, refl, ap, arith}
+use Rattle.std.specs.Prelude.{ℤ, pos, neg_ℤ, ◌+ℤ◌, ◌-ℤ◌, ◌*ℤ◌}
 use Rattle.tpz_base.specs.Points.{det}
 use Rattle.tpz_base.proofs.AxisPaths.{Order, xyz, xzy, yxz, yzx, zxy, zyx, along}
 use borrow.Author.Differences.{up, down, same_in, sum_is_lem, neg_is, product_is}
@@ -160,4 +160,3 @@ edge_volume false true true H v0 v1 v2 = same (sum (sum (product (number 0) (les
 edge_volume false true false H v0 v1 v2 = same (sum (sum (product (number 0) (less (product (number H) (itself v2)) (product (negated (number H)) (itself v1)))) (product (number H) (less (product (negated (number H)) (itself v0)) (product (number 0) (itself v2))))) (product (number 0) (less (product (number 0) (itself v1)) (product (number H) (itself v0))))) (product (number (H * H)) (negated (itself v0))) (omega arith)
 edge_volume false false true H v0 v1 v2 = same (sum (sum (product (number 0) (less (product (negated (number H)) (itself v2)) (product (number H) (itself v1)))) (product (negated (number H)) (less (product (number H) (itself v0)) (product (number 0) (itself v2))))) (product (number 0) (less (product (number 0) (itself v1)) (product (negated (number H)) (itself v0))))) (product (number (H * H)) (negated (itself v0))) (omega arith)
 edge_volume false false false H v0 v1 v2 = same (sum (sum (product (number 0) (less (product (negated (number H)) (itself v2)) (product (negated (number H)) (itself v1)))) (product (negated (number H)) (less (product (negated (number H)) (itself v0)) (product (number 0) (itself v2))))) (product (number 0) (less (product (number 0) (itself v1)) (product (negated (number H)) (itself v0))))) (product (negated (number (H * H))) (negated (itself v0))) (omega arith)
-

@@ -1,5 +1,5 @@
 -- The leaf of a triangle, the patch of a leaf, and the nearest member of a diamond.
-use Rattle.std.specs.Prelude.{ℕ, Bool, not, false, List, nat_lt, filter, find, Option, if◌then◌else◌}
+use Rattle.std.specs.Prelude.{ℕ, not, false, List, nat_lt, filter, find, Option, if◌then◌else◌}
 use Rattle.std.specs.List.{reduce}
 use Rattle.std.specs.Option.{option_map_or}
 use Rattle.tpz_base.specs.declared.shape.Point.{Point}

@@ -1,5 +1,5 @@
 -- The side of the bisecting plane by coordinates. The plane stands upright on the steps of the bisected edge, but for the middle step of three.
-use Rattle.std.specs.Prelude.{ℕ, ◌*◌, ◌/◌, ◌%◌, ◌^◌, ◌==◌, Bool, ℤ, pos, ◌+ℤ◌, ◌-ℤ◌, if◌then◌else◌}
+use Rattle.std.specs.Prelude.{ℕ, ◌*◌, ◌%◌, ◌==◌, ℤ, pos, ◌+ℤ◌, ◌-ℤ◌, if◌then◌else◌}
 use Rattle.tpz_base.specs.declared.shape.Point.{Point}
 
 -- six times how far, on one axis and in half-units, the barycentre is ahead of the midpoint in the direction of the edge. The corners' sum is s

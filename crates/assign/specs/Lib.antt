@@ -3,3 +3,5 @@ pub mod Leaf
 pub mod Sums
 pub mod Leans
 pub mod Near
+pub mod Names
+pub mod Splits

@@ -1,5 +1,5 @@
 -- A member's slot with its distance.
-use Rattle.std.specs.Prelude.{◌≡◌, ◌<◌, ℕ, List, Some, take, slice_get, nat_lt, if◌then◌else◌, IfSome}
+use Rattle.std.specs.Prelude.{◌≡◌, ◌<◌, ℕ, List, take, slice_get, nat_lt, if◌then◌else◌, IfSome}
 use Rattle.std.specs.List.{reduce}
 use Rattle.tpz_base.specs.declared.shape.Point.{Point}
 use Rattle.tpz_base.specs.Tetrahedra.{Tetrahedron}

@@ -1,5 +1,5 @@
 -- Sums of three points.
-use Rattle.std.specs.Prelude.{◌<◌, ℕ, ◌*◌, ◌^◌}
+use Rattle.std.specs.Prelude.{◌<◌, ◌*◌, ◌^◌}
 use Rattle.tpz_base.specs.declared.shape.Point.{Point}
 use Rattle.tpz_base.specs.Points.{point}
 use Rattle.assign.specs.declared.sum.Sum.{Sum}

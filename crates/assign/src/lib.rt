@@ -5,13 +5,17 @@
 #![tactic(auto)]
 
 mod leaf;
+mod leaves;
 mod near;
 mod plane;
 mod root;
 mod sum;
 
 pub use leaf::leaf_of;
+pub use leaves::{Leaves, Split};
 pub use near::nearest;
 pub use plane::side;
 pub use root::root_of;
 
+#[cfg(test)]
+mod tests;

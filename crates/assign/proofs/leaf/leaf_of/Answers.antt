@@ -1,4 +1,4 @@
-use Rattle.std.proofs.Common.{◌≡◌, ◌∙◌, ap, ap₂, sym, subst, arith}
+use Rattle.std.proofs.Common.{◌≡◌, ◌∙◌, sym, subst, arith}
 use Rattle.tetra_name.specs.Names.{IsName, tetrahedron_of}
 use Rattle.diamond_graph.specs.Graphs.{centres}
 use Rattle.assign.specs.Leaf.{leaf}

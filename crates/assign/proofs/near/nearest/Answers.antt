@@ -1,7 +1,6 @@
-use Rattle.std.proofs.Common.{◌≡◌, ◌<◌, ◌≤◌, ℕ, sym, subst, arith}
-use Rattle.std.specs.Prelude.{IfSome, slice_get, length}
+use Rattle.std.proofs.Common.{arith}
 use Rattle.tpz_base.specs.Tetrahedra.{members}
-use Rattle.tetra_name.specs.Names.{count_of, point_of, tetrahedron_of, IsCentre}
+use Rattle.tetra_name.specs.Names.{point_of}
 use Rattle.assign.specs.Sums.{point_at}
 use Rattle.assign.proofs.NearLaw.{first_near, next_near, near_all, some_members, some_there, member_there, within, all_members}
 use Rattle.assign.proofs.near.nearest.Goals as goal

@@ -1,8 +1,7 @@
 use Rattle.std.proofs.Common.{◌∙◌, ap, subst, sym}
-use Rattle.std.specs.Prelude.{ℕ, ◌≡◌, ◌<◌, IfSome}
-use Rattle.std.specs.Option.{option_map}
+use Rattle.std.specs.Prelude.{◌≡◌, ◌<◌, IfSome}
 use Rattle.tetra_name.specs.Names.{child_of, tetrahedron_of}
-use Rattle.assign.specs.Paths.{entered, side_of}
+use Rattle.assign.specs.Paths.{side_of}
 use Rattle.assign.proofs.Sides.{side_number, side_child, few_sides}
 use Rattle.assign.proofs.plane.side.Goals as goal
 
