@@ -1,7 +1,7 @@
 -- The closure of diamonds that are added one after another, and the diamonds that a division adds.
-use Rattle.std.proofs.Common.{◌≡◌, ◌≢◌, ℕ, zero, suc, ◌+◌, ◌-◌, ◌*◌, ◌∷◌, ◌<◌, ◌≤◌, [], List, Option, Some, None, Bool, true, false, cond, refl, sym, ◌∙◌, ap, subst, inl, inr, ◌⊎◌, arith, length}
+use Rattle.std.proofs.Common.{◌≡◌, ◌≢◌, ℕ, zero, suc, ◌+◌, ◌-◌, ◌*◌, ◌∷◌, ◌<◌, ◌≤◌, [], List, Option, Some, None, Err, Result, Bool, true, false, cond, refl, sym, ◌∙◌, ap, subst, inl, inr, ◌⊎◌, arith, length}
 use Rattle.std.specs.Prelude.{nat_lt, ◌||◌, slice_get}
-use Rattle.std.specs.Option.{ForSome}
+use Rattle.std.specs.Option.{ForSome, option_map}
 use Rattle.std.proofs.lemmas.Bool.{ltb-true, lt-ltb, cases_Bool, or_cases, or_left, or_right}
 use Rattle.tpz_base.specs.declared.shape.Point.{Point}
 use Rattle.tpz_base.specs.Points.{point_eq}
@@ -11,7 +11,7 @@ use Rattle.tpz_base.specs.Tetrahedra.{Tetrahedron, child_0, child_1, diamond, me
 use Rattle.tpz_base.proofs.CutLaw.{Member}
 use Rattle.tpz_base.proofs.Members.{member_named}
 use Rattle.tetra_name.specs.declared.shape.Tet.{Tet}
-use Rattle.tetra_name.specs.Names.{point_of, tetrahedron_of}
+use Rattle.tetra_name.specs.Names.{child_of, point_of, tetrahedron_of}
 use Rattle.diamond_graph.specs.Adding.{most_centres}
 use Rattle.tri_stream.specs.declared.names.StreamId.{StreamId}
 use Rattle.tri_stream.specs.Streams.{StreamsState, count_of, list_of, told_list, total, IsLive, Stands}
@@ -20,6 +20,11 @@ use Rattle.split_pass.proofs.Moving.{live_differs, same_name, same_size}
 use Rattle.diamond_graph.specs.Closed.{closure, IsConforming, IsPartOf}
 use Rattle.diamond_graph.proofs.ClosureLaw.{closure_ascends, closure_closed, closure_holds, closure_least}
 use Rattle.diamond_graph.proofs.SetLaw.{both_ways, closure-once, fewer, record_order_same}
+use Rattle.diamond_graph.specs.declared.ancestors.ClosingFault.{ClosingFault}
+use Rattle.diamond_graph.specs.declared.ancestors.ClosingFault as closing
+use Rattle.split_pass.specs.declared.fault.SplitFault.{SplitFault}
+use Rattle.split_pass.specs.declared.fault.SplitFault as split
+use Rattle.split_pass.specs.Faults.{fault_of}
 use Rattle.split_pass.specs.Crowds.{first_part, second_part, with_crowded}
 
 slice_get-member : (xs : List Tetrahedron) (i : ℕ) (T : Tetrahedron) → slice_get xs i ≡ Some T → Member xs T
@@ -180,3 +185,36 @@ both_end id a b s0 s1 s2 s3 h0 h1 h2 h3 d e f live =
           f.lists x x_b in_2 ∙ e.lists x x_a in_1 ∙ d.lists x x_id x_live);
       total = omega arith;
     }
+
+pub left_child : (L : ℕ) (name first : Tet) (T : Tetrahedron) → tetrahedron_of L first ≡ child_of 0 (tetrahedron_of L name) → tetrahedron_of L name ≡ Some T
+    → tetrahedron_of L first ≡ Some (child_0 T)
+unfolding child_of
+left_child L name first T is named = is ∙ ap (option_map child_0) named
+
+pub right_child : (L : ℕ) (name second : Tet) (T : Tetrahedron) → tetrahedron_of L second ≡ child_of 1 (tetrahedron_of L name) → tetrahedron_of L name ≡ Some T
+    → tetrahedron_of L second ≡ Some (child_1 T)
+unfolding child_of
+right_child L name second T is named = is ∙ ap (option_map child_1) named
+
+-- the fault that was handed on
+pub too_many_fault : (f : ClosingFault) (y : SplitFault) (r : Result (Unit {0}) SplitFault) → y ≡ fault_of f → r ≡ Err y → r ≡ Err split.TheVariants.TooManyRecords
+    → f ≡ closing.TheVariants.TooManyRecords
+too_many_fault closing.TheVariants.TooManyRecords y r is e much = refl
+too_many_fault closing.TheVariants.Memory y r is e much = absurd cc
+
+both_parts : (n m k cap : ℕ) (T : Tetrahedron) (M : Mesh) (V : List Point) → cap < length M → n ≡ m + 1 → n ≡ k + 1
+    → with_crowded k cap (child_1 T) (second_part T M) (with_crowded m cap (child_0 T) (first_part T M) (diamond T ∷ V)) ≡ with_crowded n cap T M V
+both_parts n m k cap T M V more one two =
+    let same : k ≡ m = omega arith in
+    ap (λ (j : ℕ). with_crowded j cap (child_1 T) (second_part T M) (with_crowded m cap (child_0 T) (first_part T M) (diamond T ∷ V))) same
+    ∙ sym (with_some n m cap T M V more one)
+
+pub both_found : (L n m k cap : ℕ) (T : Tetrahedron) (M : Mesh) (V W : List Point) → cap < length M → n ≡ m + 1 → n ≡ k + 1
+    → W ≡ closure L (with_crowded k cap (child_1 T) (second_part T M) (with_crowded m cap (child_0 T) (first_part T M) (diamond T ∷ V)))
+    → W ≡ closure L (with_crowded n cap T M V)
+both_found L n m k cap T M V W more one two is = is ∙ ap (closure L) (both_parts n m k cap T M V more one two)
+
+pub both_too_many : (L n m k cap : ℕ) (T : Tetrahedron) (M : Mesh) (V : List Point) → cap < length M → n ≡ m + 1 → n ≡ k + 1
+    → most_centres < length (closure L (with_crowded k cap (child_1 T) (second_part T M) (with_crowded m cap (child_0 T) (first_part T M) (diamond T ∷ V))))
+    → most_centres < length (closure L (with_crowded n cap T M V))
+both_too_many L n m k cap T M V more one two much = rw (← both_parts n m k cap T M V more one two) much
