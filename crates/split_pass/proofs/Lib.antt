@@ -1,3 +1,4 @@
 mod Dividing
 mod Moving
 mod Crowding
+mod Rooting

@@ -55,3 +55,11 @@ pub record MakesTwo (first second : StreamId) (old new : StreamsState) : Type 0 
   pub lists : (told : Option (List ℕ)) → ForSome told (Stands old) → (x : StreamId) → x ≢ first → x ≢ second → told_list new told x ≡ told_list old told x
   pub base : new.base ≡ old.base
   pub l : new.l ≡ old.l
+
+-- There is one stream more, and every other one is as before.
+pub record Adds (id : StreamId) (old new : StreamsState) (before now : Option (List ℕ)) : Type 0 where
+  pub fresh : count_of old id ≡ None
+  pub live : IsLive new id
+  pub counts : (x : StreamId) → x ≢ id → count_of new x ≡ count_of old x
+  pub lists : (x : StreamId) → x ≢ id → told_list new now x ≡ told_list old before x
+  pub total : total new ≡ total old + size_of new id

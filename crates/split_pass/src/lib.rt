@@ -6,5 +6,6 @@
 mod divide;
 mod fault;
 mod find;
+mod root;
 
 pub use fault::SplitFault;
