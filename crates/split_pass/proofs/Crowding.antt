@@ -7,11 +7,14 @@ use Rattle.tpz_base.specs.declared.shape.Point.{Point}
 use Rattle.tpz_base.specs.Points.{point_eq}
 use Rattle.tpz_base.specs.Meshes.{Mesh}
 use Rattle.tpz_base.specs.Cuts.{has_diamond}
-use Rattle.tpz_base.specs.Tetrahedra.{Tetrahedron, child_0, child_1, diamond, members}
+use Rattle.tpz_base.specs.Tetrahedra.{Tetrahedron, child_0, child_1, diamond, members, roots}
+use Rattle.tpz_base.specs.Roots.{root_part}
+use Rattle.std.specs.List.{slice_index_or}
+use Rattle.std.proofs.lemmas.Option.{slice_get-get_or}
 use Rattle.tpz_base.proofs.CutLaw.{Member}
 use Rattle.tpz_base.proofs.Members.{member_named}
 use Rattle.tetra_name.specs.declared.shape.Tet.{Tet}
-use Rattle.tetra_name.specs.Names.{child_of, point_of, tetrahedron_of}
+use Rattle.tetra_name.specs.Names.{child_of, point_of, root_at, tetrahedron_of}
 use Rattle.diamond_graph.specs.Adding.{most_centres}
 use Rattle.tri_stream.specs.declared.names.StreamId.{StreamId}
 use Rattle.tri_stream.specs.Streams.{StreamsState, count_of, list_of, told_list, total, IsLive, Stands}
@@ -25,7 +28,7 @@ use Rattle.diamond_graph.specs.declared.ancestors.ClosingFault as closing
 use Rattle.split_pass.specs.declared.fault.SplitFault.{SplitFault}
 use Rattle.split_pass.specs.declared.fault.SplitFault as split
 use Rattle.split_pass.specs.Faults.{fault_of}
-use Rattle.split_pass.specs.Crowds.{first_part, second_part, with_crowded}
+use Rattle.split_pass.specs.Crowds.{first_part, second_part, with_crowded, with_roots}
 
 slice_get-member : (xs : List Tetrahedron) (i : ℕ) (T : Tetrahedron) → slice_get xs i ≡ Some T → Member xs T
 slice_get-member [] i T is = absurd cc
@@ -218,3 +221,43 @@ pub both_too_many : (L n m k cap : ℕ) (T : Tetrahedron) (M : Mesh) (V : List P
     → most_centres < length (closure L (with_crowded k cap (child_1 T) (second_part T M) (with_crowded m cap (child_0 T) (first_part T M) (diamond T ∷ V))))
     → most_centres < length (closure L (with_crowded n cap T M V))
 both_too_many L n m k cap T M V more one two much = rw (← both_parts n m k cap T M V more one two) much
+
+pub root_slot_of : ℕ → ℕ → Tetrahedron
+root_slot_of L slot = slice_index_or (roots L) slot (record { level = 0; corners = [] })
+
+pub root_here : (L slot : ℕ) → slot < 6 → root_at L slot ≡ Some (root_slot_of L slot)
+unfolding root_at root_slot_of
+root_here L slot within = slice_get-get_or (roots L) slot (record { level = 0; corners = [] }) within
+
+pub empty_closure : (L cap : ℕ) (M : Mesh) → closure L (with_roots L cap M 0) ≡ []
+unfolding closure with_roots
+empty_closure L cap M = refl
+
+roots_next : (L cap : ℕ) (M : Mesh) (slot : ℕ)
+    → with_roots L cap M (suc slot) ≡ with_crowded (3 * L) cap (root_slot_of L slot) (root_part M slot) (with_roots L cap M slot)
+unfolding with_roots root_slot_of
+roots_next L cap M slot = refl
+
+roots_kept : (L cap : ℕ) (M : Mesh) (k j : ℕ) → IsPartOf (with_roots L cap M k) (with_roots L cap M (j + k))
+roots_kept L cap M k zero = let e : zero + k ≡ k = omega arith in rw e (λ d h. h)
+roots_kept L cap M k (suc j) =
+    let e : suc j + k ≡ suc (j + k) = omega arith in
+    rw (e, roots_next L cap M (j + k)) (λ d h. with_kept (3 * L) cap (root_slot_of L (j + k)) (root_part M (j + k)) (with_roots L cap M (j + k)) d (roots_kept L cap M k j d h))
+
+pub root_found : (L n cap : ℕ) (M : Mesh) (slot : ℕ) (W : List Point) → n ≡ 3 * L
+    → W ≡ closure L (with_crowded n cap (root_slot_of L slot) (root_part M slot) (with_roots L cap M slot)) → W ≡ closure L (with_roots L cap M (slot + 1))
+root_found L n cap M slot W all is =
+    let e : slot + 1 ≡ suc slot = omega arith in
+    rw (e, roots_next L cap M slot, ← all) is
+
+pub root_too_many : (L n cap : ℕ) (M : Mesh) (slot : ℕ) → n ≡ 3 * L → slot < 6
+    → most_centres < length (closure L (with_crowded n cap (root_slot_of L slot) (root_part M slot) (with_roots L cap M slot)))
+    → most_centres < length (closure L (with_roots L cap M 6))
+root_too_many L n cap M slot all within much =
+    let much' : most_centres < length (closure L (with_roots L cap M (suc slot))) = rw (roots_next L cap M slot, ← all) much in
+    let e : (6 - suc slot) + suc slot ≡ 6 = omega arith in
+    let part : IsPartOf (with_roots L cap M (suc slot)) (with_roots L cap M 6) =
+      subst (λ (k : ℕ). IsPartOf (with_roots L cap M (suc slot)) (with_roots L cap M k)) e (roots_kept L cap M (suc slot) (6 - suc slot))
+    in
+    let le = no_longer L (with_roots L cap M (suc slot)) (with_roots L cap M 6) part in
+    omega arith

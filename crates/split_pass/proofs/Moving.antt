@@ -145,3 +145,15 @@ same_name x y =
               inl (ap (λ (place : ℕ). let id : StreamId = record { place = place } in id) p)
         ]
     ]
+
+pub live_as_before : (s s' : StreamsState) (x : StreamId) → count_of s' x ≡ count_of s x → IsLive s x → IsLive s' x
+live_as_before s s' x same live = rw same live
+
+-- a stream that was made and has ended leaves every count as it was
+pub same_after : (id : StreamId) (s0 s1 s2 : StreamsState) (x : StreamId) → count_of s0 id ≡ None → ((y : StreamId) → y ≢ id → count_of s1 y ≡ count_of s0 y)
+    → ((y : StreamId) → y ≢ id → count_of s2 y ≡ count_of s1 y) → count_of s2 id ≡ None → count_of s2 x ≡ count_of s0 x
+same_after id s0 s1 s2 x fresh made ends ended =
+    elim (same_name x id) [
+      | inl is ↦ let a = ap (count_of s2) is in let b = ap (count_of s0) is in a ∙ ended ∙ sym (b ∙ fresh)
+      | inr ne ↦ ends x ne ∙ made x ne
+    ]
