@@ -222,7 +222,7 @@ pub both_too_many : (L n m k cap : ℕ) (T : Tetrahedron) (M : Mesh) (V : List P
     → most_centres < length (closure L (with_crowded n cap T M V))
 both_too_many L n m k cap T M V more one two much = rw (← both_parts n m k cap T M V more one two) much
 
-pub root_slot_of : ℕ → ℕ → Tetrahedron
+unfoldable pub root_slot_of : ℕ → ℕ → Tetrahedron
 root_slot_of L slot = slice_index_or (roots L) slot (record { level = 0; corners = [] })
 
 pub root_here : (L slot : ℕ) → slot < 6 → root_at L slot ≡ Some (root_slot_of L slot)
@@ -233,12 +233,13 @@ pub empty_closure : (L cap : ℕ) (M : Mesh) → closure L (with_roots L cap M 0
 unfolding closure with_roots
 empty_closure L cap M = refl
 
-roots_next : (L cap : ℕ) (M : Mesh) (slot : ℕ)
+pub roots_next : (L cap : ℕ) (M : Mesh) (slot : ℕ)
     → with_roots L cap M (suc slot) ≡ with_crowded (3 * L) cap (root_slot_of L slot) (root_part M slot) (with_roots L cap M slot)
 unfolding with_roots root_slot_of
 roots_next L cap M slot = refl
 
-roots_kept : (L cap : ℕ) (M : Mesh) (k j : ℕ) → IsPartOf (with_roots L cap M k) (with_roots L cap M (j + k))
+-- more roots add to what fewer do
+pub roots_kept : (L cap : ℕ) (M : Mesh) (k j : ℕ) → IsPartOf (with_roots L cap M k) (with_roots L cap M (j + k))
 roots_kept L cap M k zero = let e : zero + k ≡ k = omega arith in rw e (λ d h. h)
 roots_kept L cap M k (suc j) =
     let e : suc j + k ≡ suc (j + k) = omega arith in

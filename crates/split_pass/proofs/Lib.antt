@@ -2,3 +2,5 @@ mod Dividing
 mod Moving
 mod Crowding
 mod Rooting
+mod CrowdLaw
+mod Naming

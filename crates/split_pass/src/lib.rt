@@ -6,6 +6,7 @@
 mod divide;
 mod fault;
 mod find;
+mod place;
 mod root;
 
 pub use fault::SplitFault;
