@@ -1,12 +1,16 @@
 -- What moving triangles between streams changes.
-use Rattle.std.specs.Prelude.{◌≡◌, ◌≢◌, ◌≤◌, ◌⊎◌, ℕ, ◌+◌, List, [], Option, is_some, if◌then◌else◌}
+use Rattle.std.specs.Prelude.{◌≡◌, ◌≢◌, ◌≤◌, ◌⊎◌, ℕ, ◌+◌, ◌∷◌, ◌++◌, List, [], Option, is_some, if◌then◌else◌}
 use Rattle.std.specs.FinMap.{get}
 use Rattle.tetra_name.specs.declared.shape.Tet.{Tet}
 use Rattle.assign.specs.Names.{LeafTable}
+use Rattle.assign.specs.Standing.{NamesStreams}
+use Rattle.tpz_base.specs.declared.shape.Point.{Point}
+use Rattle.tpz_base.specs.declared.shape.Tri.{Tri}
+use Rattle.tri_stream.specs.declared.names.Cursor.{Cursor}
 use Rattle.std.specs.Option.{ForSome, option_map, unwrap_or}
 use Rattle.std.specs.declared.option.Option.TheVariants.{None, Some}
 use Rattle.tri_stream.specs.declared.names.StreamId.{StreamId}
-use Rattle.tri_stream.specs.Streams.{StreamsState, count_of, list_of, told_list, total, IsLive, Stands}
+use Rattle.tri_stream.specs.Streams.{StreamsState, count_of, list_of, told_list, total, Follows, IsLive, Stands}
 
 -- how many triangles a stream has; 0 where the name isn't live
 abbrev pub size_of : StreamsState → StreamId → ℕ
@@ -77,5 +81,25 @@ pub record Names (leaf : Tet) (id : StreamId) (before after : LeafTable) (old ne
   pub total : total new ≡ total old
   pub counts : (x : StreamId) → x ≢ id → count_of new x ≡ count_of old x
   pub lists : (told : Option (List ℕ)) → ForSome told (Stands old) → (x : StreamId) → x ≢ id → told_list new told x ≡ told_list old told x
+  pub cursors : (told : Option (List ℕ)) → ForSome told (Stands old) → (at : Cursor) → at.stream ≢ id → Follows old told at → Follows new told at
   pub list : (told : Option (List ℕ)) → ForSome told (Stands old)
       → told_list new told id ≡ option_map (λ bytes. if is_some (get before leaf) then list_of old bytes id else []) told
+
+-- A triangle was put into the stream of its leaf, and every other stream is as before, that of every other name too.
+pub record Places (leaf : Tet) (id : StreamId) (t : Tri) (leaves leaves' : LeafTable) (old new : StreamsState) (before now : Option (List ℕ)) : Type 0 where
+  pub live : IsLive new id
+  pub here : get leaves' leaf ≡ Some id
+  pub rest : (name : Tet) → name ≢ leaf → get leaves' name ≡ get leaves name
+  pub was : (get leaves leaf ≡ Some id) ⊎ ((get leaves leaf ≡ None) × (count_of old id ≡ None))
+  pub counts : (x : StreamId) → x ≢ id → count_of new x ≡ count_of old x
+  pub lists : (x : StreamId) → x ≢ id → told_list new now x ≡ told_list old before x
+  pub list : ForSome before (λ bytes. told_list new now id ≡ Some ((if is_some (get leaves leaf) then list_of old bytes id else []) ++ t ∷ []))
+  pub cursors : (at : Cursor) → at.stream ≢ id → Follows old before at → Follows new now at
+  pub total : total new ≡ total old + 1
+
+-- While triangles are placed: the names are those of leaves, and there is no stream but theirs and the one that is read.
+pub record IsTidy (L : ℕ) (F : List Point) (whole : StreamId) (leaves : LeafTable) (s : StreamsState) : Type 0 where
+  pub whole_live : IsLive s whole
+  pub names : NamesStreams L F leaves s
+  pub apart : (name : Tet) (id : StreamId) → get leaves name ≡ Some id → id ≢ whole
+  pub only : (x : StreamId) → IsLive s x → (x ≡ whole) ⊎ ((name : Tet) × (get leaves name ≡ Some x))
