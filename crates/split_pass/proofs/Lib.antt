@@ -4,3 +4,4 @@ mod Crowding
 mod Rooting
 mod CrowdLaw
 mod Naming
+mod Placing

@@ -22,7 +22,7 @@ use Rattle.assign.specs.Standing.{IsLeafOf, NamesStreams}
 use Rattle.split_pass.specs.Moves.{size_of, IsTidy, Names, Places}
 use Rattle.split_pass.proofs.Moving.{live_differs, same_name, Makes}
 
-some_same : (x y : StreamId) → Some x ≡ Some y → x ≡ y
+pub some_same : (x y : StreamId) → Some x ≡ Some y → x ≡ y
 some_same x y e = cc
 
 ties_itself : (a : Tet) → eq_by_cmp tet_cmp a a ≡ true
@@ -117,7 +117,7 @@ live_from : (s s' : StreamsState) (x : StreamId) → count_of s' x ≡ count_of 
 live_from s s' x same live = rw (← same) live
 
 -- the stream of a leaf is that of no other name
-other_name : (L : ℕ) (F : List Point) (m : LeafTable) (s : StreamsState) (leaf name : Tet) (id : StreamId) → NamesStreams L F m s
+pub other_name : (L : ℕ) (F : List Point) (m : LeafTable) (s : StreamsState) (leaf name : Tet) (id : StreamId) → NamesStreams L F m s
     → (get m leaf ≡ Some id) ⊎ ((get m leaf ≡ None) × (count_of s id ≡ None)) → name ≢ leaf → (x : StreamId) → get m name ≡ Some x → x ≢ id
 other_name L F m s leaf name id names was ne x is =
     elim was [

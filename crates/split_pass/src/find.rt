@@ -38,6 +38,7 @@ fn find<B: Blob>(
     requires live { IsLive streams.old id }
     requires stands { ForSome (B.held work.old) (Stands streams.old) }
     requires few { total streams.old ≤ 2 ^ 34 }
+    requires room { length closing.old.set ≤ most_centres }
     ensures ends { OnOk result (Ends id streams.old streams.new (B.held work.old) (B.held work.new)) }
     ensures found { OnOk result (ForSome (tetrahedron_of l name) (λ T. ForSome (told_list streams.old (B.held work.old) id) (λ M.
         (V : List Point) → closing.old.set ≡ closure l V
@@ -45,6 +46,7 @@ fn find<B: Blob>(
     ensures too_many { result ≡ Err SplitFault.TooManyRecords → ForSome (tetrahedron_of l name) (λ T. ForSome (told_list streams.old (B.held work.old) id) (λ M.
         (V : List Point) → closing.old.set ≡ closure l V
         → most_centres < length (closure l (with_crowded (3 * l - level_of l (point_of name.centre)) cap T M V)))) }
+    ensures room { length closing.new.set ≤ most_centres }
     ensures l { closing.new.l ≡ l }
     ensures stays { Stays streams.old streams.new (B.held work.new) }
     ensures later { B.faults work.old ≤ B.faults work.new }
@@ -82,6 +84,7 @@ pub(crate) fn find_all<B: Blob>(
     ensures total { OnOk result (total streams.new ≡ total streams.old) }
     ensures found { OnOk result (ForSome (told_list streams.old (B.held work.old) whole) (λ M. closing.new.set ≡ closure l (with_roots l cap M 6))) }
     ensures too_many { result ≡ Err SplitFault.TooManyRecords → ForSome (told_list streams.old (B.held work.old) whole) (λ M. most_centres < length (closure l (with_roots l cap M 6))) }
+    ensures room { length closing.new.set ≤ most_centres }
     ensures l { closing.new.l ≡ l }
     ensures stays { Stays streams.old streams.new (B.held work.new) }
     ensures later { B.faults work.old ≤ B.faults work.new }

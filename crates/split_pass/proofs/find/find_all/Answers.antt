@@ -1,5 +1,5 @@
 -- One root after another, the diamonds below it are added.
-use Rattle.std.proofs.Common.{◌≡◌, ◌≤◌, ◌<◌, ◌+◌, ◌*◌, ◌-◌, ◌∙◌, [], Some, Err, arith, sym, ap, refl}
+use Rattle.std.proofs.Common.{◌≡◌, ◌≤◌, ◌<◌, ◌+◌, ◌*◌, ◌-◌, ◌∙◌, [], Some, Err, arith, length, sym, ap, refl}
 use Rattle.std.proofs.lemmas.Result.{err_from_is_err_and}
 use Rattle.tpz_base.specs.Diamonds.{level_of}
 use Rattle.tpz_base.specs.Roots.{root_part}
@@ -17,6 +17,7 @@ slots-init g c = record {
   list = refl;
   total = refl;
   found = λ M was. c.requires.empty ∙ sym (empty_closure c.args.l c.args.cap M);
+  room = (let e = ap length c.requires.empty in omega arith);
   level = c.requires.l;
   stays = record { base = refl; l = refl; stands = c.requires.stands };
   later = omega arith;
@@ -62,6 +63,7 @@ slots-preserved g c =
       found = λ M was.
       root_found l n c.args.cap M slot c.find.new.closing.set (omega arith)
       (c.in_ok-find.ensures.found (root_slot_of l slot) is (root_part M slot) (c.in_ok-id.ensures.list M (inv.list ∙ was)) (with_roots l c.args.cap M slot) (inv.found M was));
+      room = c.in_ok-find.ensures.room;
       level = c.in_ok-find.ensures.l;
       stays = record {
         base = c.in_ok-find.ensures.stays.base ∙ c.in_ok-id.ensures.stays.base ∙ inv.stays.base;
