@@ -1,5 +1,5 @@
 -- The leaf of a triangle is a leaf, and the streams of the leaves hold the triangles that were placed.
-use Rattle.std.proofs.Common.{◌≡◌, ◌≢◌, ◌⊎◌, ◌+◌, ◌*◌, ◌++◌, ◌∷◌, ◌≤◌, ◌<◌, Bool, true, false, cond, Some, None, Option, ℕ, zero, suc, List, [], refl, sym, ◌∙◌, ap, subst, inl, inr, true≢false, arith, length, append-nil, get_or}
+use Rattle.std.proofs.Common.{◌≡◌, ◌≢◌, ◌⊎◌, ◌+◌, ◌*◌, ◌++◌, ◌∷◌, ◌≤◌, ◌<◌, Bool, true, false, cond, Some, None, Option, Err, Result, ℕ, zero, suc, List, [], refl, sym, ◌∙◌, ap, subst, inl, inr, true≢false, arith, length, map, append-nil, get_or}
 use Rattle.std.specs.Prelude.{is_some, not, filter, find, slice_get, take, ◌↔◌, Contains, IsSome}
 use Rattle.std.specs.Option.{ForSome, option_map, option_map_or}
 use Rattle.std.specs.FinMap.{get, empty, get-empty}
@@ -20,7 +20,8 @@ use Rattle.tetra_name.specs.declared.shape.Tet.{Tet}
 use Rattle.tetra_name.specs.Names.{tetrahedron_of, IsName, NamesEach}
 use Rattle.tetra_name.proofs.NameFacts.{member-contains}
 use Rattle.tri_stream.specs.declared.names.StreamId.{StreamId}
-use Rattle.tri_stream.specs.Streams.{StreamsState, count_of, list_of, told_list, IsLive, LeavesAll, Stands}
+use Rattle.diamond_graph.specs.Graphs.{centre_of, fresh_record}
+use Rattle.tri_stream.specs.Streams.{StreamsState, count_of, list_of, told_list, IsLive, LeavesAll, LeavesOthers, Stands}
 use Rattle.assign.specs.Paths.{entered, path, path_below}
 use Rattle.assign.specs.Leaf.{leaf, leaf_patch}
 use Rattle.assign.specs.Names.{tet_cmp, LeafTable}
@@ -231,3 +232,26 @@ reads_more s id k n next t live all within end is =
           let none : next ≡ None = end.1 (live_size s id live ∙ ap Some same) in
           absurd (let e : Some t ≡ None = sym is ∙ none in cc)
     ]
+
+-- the streams of the leaves stay where the one that was read ends
+pub holds_after : (L : ℕ) (F : List Point) (whole : StreamId) (M : Mesh) (m : LeafTable) (s s' : StreamsState) (h h' : Option (List ℕ)) → IsTidy L F whole m s
+    → LeavesOthers whole s s' h h' → HoldsPatches L F M m s h → HoldsPatches L F M m s' h'
+holds_after L F whole M m s s' h h' tidy others held =
+    record { named = held.named; lists = λ name id is. others.lists id (tidy.apart name id is) ∙ held.lists name id is }
+
+pub names_after : (L : ℕ) (F : List Point) (whole : StreamId) (m : LeafTable) (s s' : StreamsState) (h h' : Option (List ℕ)) → IsTidy L F whole m s
+    → LeavesOthers whole s s' h h' → NamesStreams L F m s'
+names_after L F whole m s s' h h' tidy others = record {
+  leaf = tidy.names.leaf;
+  live = λ name id is. rw (others.counts id (tidy.apart name id is)) (tidy.names.live name id is);
+  one = tidy.names.one;
+}
+
+-- the centres of fresh records
+pub sealed : (W : List Point) → map centre_of (map fresh_record W) ≡ W
+sealed [] = refl
+sealed (d ∷ W) = ap (λ ds. d ∷ ds) (sealed W)
+
+-- a result has one error
+pub err_same : {X E : Type 0} (r : Result X E) (a b : E) → r ≡ Err a → r ≡ Err b → a ≡ b
+err_same r a b e f = cc

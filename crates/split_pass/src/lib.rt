@@ -6,7 +6,9 @@
 mod divide;
 mod fault;
 mod find;
+mod pass;
 mod place;
 mod root;
 
 pub use fault::SplitFault;
+pub use pass::split;
