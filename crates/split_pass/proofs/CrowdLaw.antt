@@ -128,19 +128,19 @@ added (suc n) m L cap T M V x all k h =
           let rest : suc m + n ≡ 3 * L = omega arith in
           let V1 = with_crowded n cap (child_0 T) (through L M (child_0 T)) (diamond T ∷ V) in
           let is : with_crowded (suc n) cap T (through L M T) V ≡ with_crowded n cap (child_1 T) (through L M (child_1 T)) V1 =
-            with_some (suc n) n cap T (through L M T) V more (omega arith)
-            ∙ ap₂ (λ (a b : Mesh). with_crowded n cap (child_1 T) a (with_crowded n cap (child_0 T) b (diamond T ∷ V))) (second_through L M m T within k) (first_through L M m T within k)
+          with_some (suc n) n cap T (through L M T) V more (omega arith)
+          ∙ ap₂ (λ (a b : Mesh). with_crowded n cap (child_1 T) a (with_crowded n cap (child_0 T) b (diamond T ∷ V))) (second_through L M m T within k) (first_through L M m T within k)
           in
           let h1 : has_diamond (with_crowded n cap (child_1 T) (through L M (child_1 T)) V1) x ≡ true = subst (λ (ds : List Point). has_diamond ds x ≡ true) is h in
           elim (added n (suc m) L cap (child_1 T) M V1 x rest (at_second L m T k) h1) [
             | inr found ↦ inr found
             | inl h2 ↦ elim (added n (suc m) L cap (child_0 T) M (diamond T ∷ V) x rest (at_first L m T k) h2) [
-                | inr found ↦ inr found
-                | inl h3 ↦ elim (or_cases (point_eq (diamond T) x) (has_diamond V x) h3) [
-                    | inl e ↦ inr (T, record { level = m; above = omega arith; member = k; more = more }, point_eq-true (diamond T) x e)
-                    | inr e ↦ inl e
-                  ]
+              | inr found ↦ inr found
+              | inl h3 ↦ elim (or_cases (point_eq (diamond T) x) (has_diamond V x) h3) [
+                | inl e ↦ inr (T, record { level = m; above = omega arith; member = k; more = more }, point_eq-true (diamond T) x e)
+                | inr e ↦ inl e
               ]
+            ]
           ]
     ]
 
@@ -156,9 +156,9 @@ child_le L M m P S within k c =
     elim c [
       | inl e ↦ rw (← e, ← first_through L M m P within k) (filter_le (λ t. not (is_beyond t P)) (through L M P))
       | inr r ↦ elim r [
-          | inl e ↦ rw (← e, ← second_through L M m P within k) (filter_le (λ t. is_beyond t P) (through L M P))
-          | inr none ↦ absurd none
-        ]
+        | inl e ↦ rw (← e, ← second_through L M m P within k) (filter_le (λ t. is_beyond t P) (through L M P))
+        | inr none ↦ absurd none
+      ]
     ]
 
 -- no more go through what is further down the path
@@ -196,11 +196,11 @@ reached (suc n) m L cap T M V t zero all k here h more =
     let e : walk L t (m + zero) ≡ T = ap (walk L t) (omega arith) ∙ here in
     let d = diamond (walk L t (m + zero)) in
     let first : has_diamond (diamond T ∷ V) d ≡ true =
-      or_left (point_eq (diamond T) d) (has_diamond V d) (subst (λ S. point_eq (diamond T) (diamond S) ≡ true) (sym e) (point_eq_refl (diamond T)))
+    or_left (point_eq (diamond T) d) (has_diamond V d) (subst (λ S. point_eq (diamond T) (diamond S) ≡ true) (sym e) (point_eq_refl (diamond T)))
     in
     subst (λ (ds : List Point). has_diamond ds d ≡ true) (sym (opened n m L cap T M V (omega arith) k many))
     (with_kept n cap (child_1 T) (through L M (child_1 T)) (with_crowded n cap (child_0 T) (through L M (child_0 T)) (diamond T ∷ V)) d
-      (with_kept n cap (child_0 T) (through L M (child_0 T)) (diamond T ∷ V) d first))
+    (with_kept n cap (child_0 T) (through L M (child_0 T)) (diamond T ∷ V) d first))
 reached (suc n) m L cap T M V t (suc j) all k here h more =
     let many = many_here L cap m (suc j) T M t (omega arith) here more in
     let rest : suc m + n ≡ 3 * L = omega arith in
@@ -209,12 +209,12 @@ reached (suc n) m L cap T M V t (suc j) all k here h more =
     let next : walk L t (suc m) ≡ entered t T = walk_next L t m ∙ ap (entered t) here in
     let V1 = with_crowded n cap (child_0 T) (through L M (child_0 T)) (diamond T ∷ V) in
     let there : has_diamond (below n L cap T M V) (diamond (walk L t (suc m + j))) ≡ true =
-      elim (cases_Bool (is_beyond t T)) [
-        | inl b ↦ reached n (suc m) L cap (child_1 T) M V1 t j rest (at_second L m T k) (next ∙ enters_second t T b) (omega arith) more'
-        | inr b ↦
-            with_kept n cap (child_1 T) (through L M (child_1 T)) V1 (diamond (walk L t (suc m + j)))
-            (reached n (suc m) L cap (child_0 T) M (diamond T ∷ V) t j rest (at_first L m T k) (next ∙ enters_first t T b) (omega arith) more')
-      ]
+    elim (cases_Bool (is_beyond t T)) [
+      | inl b ↦ reached n (suc m) L cap (child_1 T) M V1 t j rest (at_second L m T k) (next ∙ enters_second t T b) (omega arith) more'
+      | inr b ↦
+          with_kept n cap (child_1 T) (through L M (child_1 T)) V1 (diamond (walk L t (suc m + j)))
+          (reached n (suc m) L cap (child_0 T) M (diamond T ∷ V) t j rest (at_first L m T k) (next ∙ enters_first t T b) (omega arith) more')
+    ]
     in
     subst (λ (ds : List Point). has_diamond ds (diamond (walk L t (m + suc j))) ≡ true) (sym (opened n m L cap T M V (omega arith) k many))
     (subst (λ S. has_diamond (below n L cap T M V) (diamond S) ≡ true) (sym e) there)
@@ -260,13 +260,13 @@ unfolding is_in_root root_slot_of
 in_root_on_path L slot t h =
     both_ways (root_slot (corner_sum t) == slot) (on_path L t (root_slot_of L slot))
     (λ e.
-      let same = eqb-true (root_slot (corner_sum t)) slot e in
-      subst (λ S. on_path L t S ≡ true) (root_first L t ∙ ap (root_slot_of L) same) (walk-on_path L t 0 (omega arith)))
+    let same = eqb-true (root_slot (corner_sum t)) slot e in
+    subst (λ S. on_path L t S ≡ true) (root_first L t ∙ ap (root_slot_of L) same) (walk-on_path L t 0 (omega arith)))
     (λ e.
-      let here = sym (root_first L t) ∙ on_path-walk L t 0 (root_slot_of L slot) (root_member L slot h) e in
-      let once : NoTwice (roots L) = no_twice-differ (roots L) (level_differs L 0 (omega arith)) in
-      eq-eqb (root_slot (corner_sum t)) slot
-      (one_place (roots L) (record { level = 0; corners = [] }) (root_slot (corner_sum t)) slot once (slot_few (corner_sum t)) h here))
+    let here = sym (root_first L t) ∙ on_path-walk L t 0 (root_slot_of L slot) (root_member L slot h) e in
+    let once : NoTwice (roots L) = no_twice-differ (roots L) (level_differs L 0 (omega arith)) in
+    eq-eqb (root_slot (corner_sum t)) slot
+    (one_place (roots L) (record { level = 0; corners = [] }) (root_slot (corner_sum t)) slot once (slot_few (corner_sum t)) h here))
 
 root_through : (L : ℕ) (M : Mesh) (slot : ℕ) → slot < 6 → root_part M slot ≡ through L M (root_slot_of L slot)
 root_through L M slot h = filter_agree (is_in_root slot) (λ t. on_path L t (root_slot_of L slot)) (λ t. in_root_on_path L slot t h) M
@@ -277,8 +277,8 @@ roots_added L cap M zero x within h = absurd (true≢false (sym h))
 roots_added L cap M (suc k) x within h =
     let part = root_through L M k (omega arith) in
     let h1 : has_diamond (with_crowded (3 * L) cap (root_slot_of L k) (through L M (root_slot_of L k)) (with_roots L cap M k)) x ≡ true =
-      subst (λ (N : Mesh). has_diamond (with_crowded (3 * L) cap (root_slot_of L k) N (with_roots L cap M k)) x ≡ true) part
-      (subst (λ (ds : List Point). has_diamond ds x ≡ true) (roots_next L cap M k) h)
+    subst (λ (N : Mesh). has_diamond (with_crowded (3 * L) cap (root_slot_of L k) N (with_roots L cap M k)) x ≡ true) part
+    (subst (λ (ds : List Point). has_diamond ds x ≡ true) (roots_next L cap M k) h)
     in
     elim (added (3 * L) 0 L cap (root_slot_of L k) M (with_roots L cap M k) x (omega arith) (root_member L k (omega arith)) h1) [
       | inl before ↦ roots_added L cap M k x (omega arith) before
@@ -293,11 +293,11 @@ roots_reached L cap M t i h more =
     let d = diamond (walk L t i) in
     let e : walk L t (0 + i) ≡ walk L t i = ap (walk L t) (omega arith) in
     let there = reached (3 * L) 0 L cap (root_slot_of L k) M (with_roots L cap M k) t i (omega arith) (root_member L k few) (root_first L t) h
-      (subst (λ S. cap < length (through L M S)) (sym e) more)
+    (subst (λ S. cap < length (through L M S)) (sym e) more)
     in
     let there' : has_diamond (with_crowded (3 * L) cap (root_slot_of L k) (root_part M k) (with_roots L cap M k)) d ≡ true =
-      subst (λ (N : Mesh). has_diamond (with_crowded (3 * L) cap (root_slot_of L k) N (with_roots L cap M k)) d ≡ true) (sym (root_through L M k few))
-      (subst (λ S. has_diamond (with_crowded (3 * L) cap (root_slot_of L k) (through L M (root_slot_of L k)) (with_roots L cap M k)) (diamond S) ≡ true) e there)
+    subst (λ (N : Mesh). has_diamond (with_crowded (3 * L) cap (root_slot_of L k) N (with_roots L cap M k)) d ≡ true) (sym (root_through L M k few))
+    (subst (λ S. has_diamond (with_crowded (3 * L) cap (root_slot_of L k) (through L M (root_slot_of L k)) (with_roots L cap M k)) (diamond S) ≡ true) e there)
     in
     let so_far : has_diamond (with_roots L cap M (suc k)) d ≡ true = subst (λ (ds : List Point). has_diamond ds d ≡ true) (sym (roots_next L cap M k)) there' in
     let last : (6 - suc k) + suc k ≡ 6 = omega arith in
@@ -321,7 +321,7 @@ on_the_way L t (suc n) (suc m) k (suc i) h l =
     let e : walk L t (suc k + i) ≡ walk L t (k + suc i) = ap (walk L t) (omega arith) in
     let next : path_below n t (walk L t (suc k)) ≡ path_below n t (entered t (walk L t k)) = ap (path_below n t) (walk_next L t k) in
     inr (subst (Member (take m (path_below n t (entered t (walk L t k))))) e
-      (subst (λ (ps : List Tetrahedron). Member (take m ps) (walk L t (suc k + i))) next (on_the_way L t n m (suc k) i (omega arith) (omega arith))))
+    (subst (λ (ps : List Tetrahedron). Member (take m ps) (walk L t (suc k + i))) next (on_the_way L t n m (suc k) i (omega arith) (omega arith))))
 
 walk_in_front : (L : ℕ) (t : Tri) (i : ℕ) → i < 3 * L → Member (take (3 * L) (path L t)) (walk L t i)
 unfolding path walk
@@ -339,7 +339,7 @@ is_crowded L cap M S c =
     let more : nat_lt cap (visitors L M S) ≡ true = lt-ltb cap (visitors L M S) (rw (visitors_through L M S) c.more) in
     member-has (map diamond (filter (λ T. nat_lt cap (visitors L M T)) (flat_map (λ t. take (3 * L) (path L t)) M))) (diamond S)
     (map-member diamond (filter (λ T. nat_lt cap (visitors L M T)) (flat_map (λ t. take (3 * L) (path L t)) M)) S
-      (filter-member (λ T. nat_lt cap (visitors L M T)) (flat_map (λ t. take (3 * L) (path L t)) M) S all more))
+    (filter-member (λ T. nat_lt cap (visitors L M T)) (flat_map (λ t. take (3 * L) (path L t)) M) S all more))
 
 crowded_reached : (L cap : ℕ) (M : Mesh) (x : Point) → has_diamond (crowded L cap M) x ≡ true → has_diamond (with_roots L cap M 6) x ≡ true
 unfolding crowded
@@ -360,7 +360,7 @@ unfolding split_set
 found_split L cap M =
     closure_same L (with_roots L cap M 6) (crowded L cap M)
     (λ x. both_ways (has_diamond (with_roots L cap M 6) x) (has_diamond (crowded L cap M) x)
-      (λ h.
-        let r = roots_added L cap M 6 x (omega arith) h in
-        subst (λ (d : Point). has_diamond (crowded L cap M) d ≡ true) r.2 (is_crowded L cap M r.0 r.1))
-      (crowded_reached L cap M x))
+    (λ h.
+    let r = roots_added L cap M 6 x (omega arith) h in
+    subst (λ (d : Point). has_diamond (crowded L cap M) d ≡ true) r.2 (is_crowded L cap M r.0 r.1))
+    (crowded_reached L cap M x))

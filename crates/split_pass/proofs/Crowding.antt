@@ -60,10 +60,10 @@ closure_again L d V =
 
     back : (x : Point) → has_diamond (closure L (d ∷ V)) x ≡ true → has_diamond (closure L (d ∷ closure L V)) x ≡ true
     back = closure_more L (d ∷ V) (d ∷ closure L V)
-      (λ y k. elim (or_cases (point_eq d y) (has_diamond V y) k) [
-        | inl e ↦ or_left (point_eq d y) (has_diamond (closure L V) y) e
-        | inr e ↦ or_right (point_eq d y) (has_diamond (closure L V) y) (closure_holds L V y e)
-      ])
+        (λ y k. elim (or_cases (point_eq d y) (has_diamond V y) k) [
+          | inl e ↦ or_left (point_eq d y) (has_diamond (closure L V) y) e
+          | inr e ↦ or_right (point_eq d y) (has_diamond (closure L V) y) (closure_holds L V y e)
+        ])
 
 -- where few triangles go through, or the level is the last, nothing is added
 pub with_none : (n cap : ℕ) (T : Tetrahedron) (M : Mesh) (V : List Point) → (length M ≤ cap) ⊎ (n ≡ 0) → with_crowded n cap T M V ≡ V
@@ -112,12 +112,12 @@ pub too_many_here : (L n cap : ℕ) (T : Tetrahedron) (M : Mesh) (V W : List Poi
     → most_centres < length (closure L (d ∷ W)) → most_centres < length (closure L (with_crowded n cap T M V))
 too_many_here L n cap T M V W d is named more above much =
     let much' : most_centres < length (closure L (diamond T ∷ V)) =
-      subst (λ (xs : List Point). most_centres < length xs) (ap (λ (x : Point). closure L (x ∷ W)) named ∙ ap (λ (xs : List Point). closure L (diamond T ∷ xs)) is ∙ closure_again L (diamond T) V) much
+    subst (λ (xs : List Point). most_centres < length xs) (ap (λ (x : Point). closure L (x ∷ W)) named ∙ ap (λ (xs : List Point). closure L (diamond T ∷ xs)) is ∙ closure_again L (diamond T) V) much
     in
     let all = with_some n (n - 1) cap T M V more (omega arith) in
     let part : IsPartOf (diamond T ∷ V) (with_crowded n cap T M V) =
-      rw all (λ x h. with_kept (n - 1) cap (child_1 T) (second_part T M) (with_crowded (n - 1) cap (child_0 T) (first_part T M) (diamond T ∷ V)) x
-        (with_kept (n - 1) cap (child_0 T) (first_part T M) (diamond T ∷ V) x h))
+    rw all (λ x h. with_kept (n - 1) cap (child_1 T) (second_part T M) (with_crowded (n - 1) cap (child_0 T) (first_part T M) (diamond T ∷ V)) x
+    (with_kept (n - 1) cap (child_0 T) (first_part T M) (diamond T ∷ V) x h))
     in
     let le = no_longer L (diamond T ∷ V) (with_crowded n cap T M V) part in
     omega arith
@@ -129,7 +129,7 @@ pub too_many_first : (L n m cap : ℕ) (T : Tetrahedron) (M : Mesh) (V : List Po
 too_many_first L n m cap T M V more is much =
     let all = with_some n m cap T M V more is in
     let part : IsPartOf (with_crowded m cap (child_0 T) (first_part T M) (diamond T ∷ V)) (with_crowded n cap T M V) =
-      rw all (with_kept m cap (child_1 T) (second_part T M) (with_crowded m cap (child_0 T) (first_part T M) (diamond T ∷ V)))
+    rw all (with_kept m cap (child_1 T) (second_part T M) (with_crowded m cap (child_0 T) (first_part T M) (diamond T ∷ V)))
     in
     let le = no_longer L (with_crowded m cap (child_0 T) (first_part T M) (diamond T ∷ V)) (with_crowded n cap T M V) part in
     omega arith
@@ -174,14 +174,14 @@ both_end id a b s0 s1 s2 s3 h0 h1 h2 h3 d e f live =
             let in_0 : count_of s0 x ≡ count_of s0 a = ap (count_of s0) is in
             in_3 ∙ f.counts a d.apart ∙ e.ended ∙ sym (in_0 ∙ d.fresh_first)
         | inr x_a ↦ elim (same_name x b) [
-            | inl is ↦ let in_3 : count_of s3 x ≡ count_of s3 b = ap (count_of s3) is in
-                let in_0 : count_of s0 x ≡ count_of s0 b = ap (count_of s0) is in
-                in_3 ∙ f.ended ∙ sym (in_0 ∙ d.fresh_second)
-            | inr x_b ↦ f.counts x x_b ∙ e.counts x x_a ∙ d.counts x x_id x_a x_b
-          ]
+          | inl is ↦ let in_3 : count_of s3 x ≡ count_of s3 b = ap (count_of s3) is in
+              let in_0 : count_of s0 x ≡ count_of s0 b = ap (count_of s0) is in
+              in_3 ∙ f.ended ∙ sym (in_0 ∙ d.fresh_second)
+          | inr x_b ↦ f.counts x x_b ∙ e.counts x x_a ∙ d.counts x x_id x_a x_b
+        ]
       ];
       lists = λ x x_id x_live.
-      (let x_a = live_differs s0 x a x_live d.fresh_first in
+          (let x_a = live_differs s0 x a x_live d.fresh_first in
           let x_b = live_differs s0 x b x_live d.fresh_second in
           let in_1 : IsLive s1 x = rw (d.counts x x_id x_a x_b) x_live in
           let in_2 : IsLive s2 x = rw (e.counts x x_a) in_1 in
@@ -258,7 +258,7 @@ root_too_many L n cap M slot all within much =
     let much' : most_centres < length (closure L (with_roots L cap M (suc slot))) = rw (roots_next L cap M slot, ← all) much in
     let e : (6 - suc slot) + suc slot ≡ 6 = omega arith in
     let part : IsPartOf (with_roots L cap M (suc slot)) (with_roots L cap M 6) =
-      subst (λ (k : ℕ). IsPartOf (with_roots L cap M (suc slot)) (with_roots L cap M k)) e (roots_kept L cap M (suc slot) (6 - suc slot))
+    subst (λ (k : ℕ). IsPartOf (with_roots L cap M (suc slot)) (with_roots L cap M k)) e (roots_kept L cap M (suc slot) (6 - suc slot))
     in
     let le = no_longer L (with_roots L cap M (suc slot)) (with_roots L cap M 6) part in
     omega arith

@@ -50,11 +50,11 @@ made_two a b s0 s1 s2 m n =
       total = n.total ∙ m.total;
       stands = λ bytes h. n.stands bytes (m.stands bytes h);
       list_first = λ bytes h.
-      (let told = (n.others (Some bytes) (one_told s1 bytes (m.stands bytes h))).lists a apart in
+          (let told = (n.others (Some bytes) (one_told s1 bytes (m.stands bytes h))).lists a apart in
           let same : list_of s2 bytes a ≡ list_of s1 bytes a = cc in same ∙ m.list bytes h);
       list_second = λ bytes h. n.list bytes (m.stands bytes h);
       lists = λ told h x x_a x_b.
-      (n.others told (λ bytes is. m.stands bytes (h bytes is))).lists x x_b ∙ (m.others told h).lists x x_a;
+          (n.others told (λ bytes is. m.stands bytes (h bytes is))).lists x x_b ∙ (m.others told h).lists x x_a;
       base = n.base ∙ m.base;
       l = n.l ∙ m.l;
     }
@@ -116,7 +116,7 @@ divided id a b s0 s1 s2 s3 h0 h2 h3 live stands m n g =
       ended = g.ended;
       counts = λ x x_id x_a x_b. g.others.counts x x_id ∙ n.others.counts x x_a x_b ∙ m.counts x x_a x_b;
       lists = λ x x_id x_live.
-      (let x_a = live_differs s0 x a x_live m.fresh_first in
+          (let x_a = live_differs s0 x a x_live m.fresh_first in
           let x_b = live_differs s0 x b x_live m.fresh_second in g.others.lists x x_id ∙ n.others.lists x x_a x_b ∙ m.lists h0 stands x x_a x_b);
       total = omega arith;
     }
@@ -139,11 +139,11 @@ same_name x y =
     elim (cases_lt x.place y.place) [
       | inl h ↦ inr (λ same. let p : x.place ≡ y.place = ap (λ (id : StreamId). id.place) same in omega arith)
       | inr h ↦ elim (cases_lt y.place x.place) [
-          | inl h' ↦ inr (λ same. let p : x.place ≡ y.place = ap (λ (id : StreamId). id.place) same in omega arith)
-          | inr h' ↦
-              let p : x.place ≡ y.place = omega arith in
-              inl (ap (λ (place : ℕ). let id : StreamId = record { place = place } in id) p)
-        ]
+        | inl h' ↦ inr (λ same. let p : x.place ≡ y.place = ap (λ (id : StreamId). id.place) same in omega arith)
+        | inr h' ↦
+            let p : x.place ≡ y.place = omega arith in
+            inl (ap (λ (place : ℕ). let id : StreamId = record { place = place } in id) p)
+      ]
     ]
 
 pub live_as_before : (s s' : StreamsState) (x : StreamId) → count_of s' x ≡ count_of s x → IsLive s x → IsLive s' x

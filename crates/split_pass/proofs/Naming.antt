@@ -79,7 +79,7 @@ named_now leaf id table s s' none made = record {
   lists = λ told h x ne. (made.others told h).lists x ne;
   cursors = λ told h at ne f. (made.others told h).cursors at ne f;
   list = λ told h.
-  all told h ∙ ap (λ (o : Option StreamId). option_map (λ (bytes : List ℕ). cond (is_some o) (list_of s bytes id) []) told) (sym none);
+      all told h ∙ ap (λ (o : Option StreamId). option_map (λ (bytes : List ℕ). cond (is_some o) (list_of s bytes id) []) told) (sym none);
 }
   where
     all : (told : Option (List ℕ)) → ForSome told (Stands s) → told_list s' told id ≡ option_map (λ (bytes : List ℕ). []) told
@@ -105,8 +105,8 @@ placed leaf id t m m' s0 s1 s2 h h' stands n a = record {
   counts = λ x ne. a.others.counts x ne ∙ n.counts x ne;
   lists = λ x ne. a.others.lists x ne ∙ n.lists h stands x ne;
   list = λ bytes is.
-  (let first : told_list s1 h id ≡ Some (cond (is_some (get m leaf)) (list_of s0 bytes id) []) =
-        n.list h stands ∙ ap (option_map (λ (bytes : List ℕ). cond (is_some (get m leaf)) (list_of s0 bytes id) [])) is
+      (let first : told_list s1 h id ≡ Some (cond (is_some (get m leaf)) (list_of s0 bytes id) []) =
+      n.list h stands ∙ ap (option_map (λ (bytes : List ℕ). cond (is_some (get m leaf)) (list_of s0 bytes id) [])) is
       in
       a.list ∙ ap (option_map (λ list. list ++ t ∷ [])) first);
   cursors = λ at ne f. a.cursors at (n.cursors h stands at ne f);
@@ -129,10 +129,10 @@ pub still_tidy : (L : ℕ) (F : List Point) (whole : StreamId) (leaf : Tet) (id 
     (T : Tetrahedron) → tetrahedron_of L leaf ≡ Some T → IsLeafOf L F T → IsTidy L F whole m s → Places leaf id t m m' s s' h h' → IsTidy L F whole m' s'
 still_tidy L F whole leaf id t m m' s s' h h' T named is_leaf tidy p =
     let not_whole : id ≢ whole =
-      elim p.was [
-        | inl here ↦ tidy.apart leaf id here
-        | inr none ↦ λ same. live_differs s whole id tidy.whole_live none.1 (sym same)
-      ]
+    elim p.was [
+      | inl here ↦ tidy.apart leaf id here
+      | inr none ↦ λ same. live_differs s whole id tidy.whole_live none.1 (sym same)
+    ]
     in
     record {
       whole_live = rw (p.counts whole (λ same. not_whole (sym same))) tidy.whole_live;

@@ -69,8 +69,12 @@ found_leaf L F t (suc n) m T all below is =
       | inr e ↦
           let rest : find (λ S. not (has_diamond F (diamond S))) (path_below n t (entered t (walk L t m))) ≡ Some T = rw e at is in
           let next : Below L F (walk L t (suc m)) =
-            inr (walk L t m, member-contains (descendants L) (walk L t m) (in_levels L (3 * L) m (walk L t m) (omega arith) (walk_member L t m)),
-              member-contains (children (walk L t m)) (walk L t (suc m)) (next_child L t m), not_true (has_diamond F (diamond (walk L t m))) e)
+          inr (
+            walk L t m,
+            member-contains (descendants L) (walk L t m) (in_levels L (3 * L) m (walk L t m) (omega arith) (walk_member L t m)),
+            member-contains (children (walk L t m)) (walk L t (suc m)) (next_child L t m),
+            not_true (has_diamond F (diamond (walk L t m))) e,
+          )
           in
           found_leaf L F t n (suc m) T (omega arith) next
           (subst (λ (S : Tetrahedron). find (λ S. not (has_diamond F (diamond S))) (path_below n t S) ≡ Some T) (sym (walk_step L t m)) rest)
@@ -122,22 +126,23 @@ pub still_holds : (L : ℕ) (F : List Point) (N : Mesh) (whole : StreamId) (leaf
 unfolding IsName
 still_holds L F N whole leaf_name id t m m' s s' h h' T each named is tidy bytes told held p =
     let other : (name : Tet) → name ≢ leaf_name → named_patch L F (N ++ t ∷ []) name ≡ named_patch L F N name =
-      λ name ne. rest_more L F N t name T (tetrahedron_of L name) refl is
-        (λ same. ne (each.once name leaf_name (some_is (tetrahedron_of L name) T same) (same ∙ sym named)))
+    λ name ne. rest_more L F N t name T (tetrahedron_of L name) refl is
+    (λ same. ne (each.once name leaf_name (some_is (tetrahedron_of L name) T same) (same ∙ sym named)))
     in
     let same_patch : named_patch L F (N ++ t ∷ []) leaf_name ≡ named_patch L F N leaf_name ++ t ∷ [] = here_more L F N t leaf_name T named is in
     let before : cond (is_some (get m leaf_name)) (list_of s bytes id) [] ≡ named_patch L F N leaf_name =
-      elim p.was [
-        | inl here ↦ ap (λ (o : Option StreamId). cond (is_some o) (list_of s bytes id) []) here
-            ∙ told_some (list_of s bytes id) (named_patch L F N leaf_name) (sym (ap (option_map (λ (bytes : List ℕ). list_of s bytes id)) told) ∙ held.lists leaf_name id here)
-        | inr none ↦ ap (λ (o : Option StreamId). cond (is_some o) (list_of s bytes id) []) none.0 ∙ sym ((held.named leaf_name).0 none.0)
-      ]
+    elim p.was [
+      | inl here ↦ ap (λ (o : Option StreamId). cond (is_some o) (list_of s bytes id) []) here
+          ∙ told_some (list_of s bytes id) (named_patch L F N leaf_name) (sym (ap (option_map (λ (bytes : List ℕ). list_of s bytes id)) told) ∙ held.lists leaf_name id here)
+      | inr none ↦ ap (λ (o : Option StreamId). cond (is_some o) (list_of s bytes id) []) none.0 ∙ sym ((held.named leaf_name).0 none.0)
+    ]
     in
     record {
       named = λ name. elim (same_tet name leaf_name) [
-        | inl same ↦
-            (λ none. absurd (no_id id (sym p.here ∙ sym (ap (get m') same) ∙ none)),
-              λ none. absurd (never_empty (named_patch L F N leaf_name) t (sym same_patch ∙ sym (ap (named_patch L F (N ++ t ∷ [])) same) ∙ none)))
+        | inl same ↦ (
+          λ none. absurd (no_id id (sym p.here ∙ sym (ap (get m') same) ∙ none)),
+          λ none. absurd (never_empty (named_patch L F N leaf_name) t (sym same_patch ∙ sym (ap (named_patch L F (N ++ t ∷ [])) same) ∙ none)),
+        )
         | inr ne ↦ (λ none. other name ne ∙ (held.named name).0 (sym (p.rest name ne) ∙ none), λ none. p.rest name ne ∙ (held.named name).1 (sym (other name ne) ∙ none))
       ];
       lists = λ name x at. elim (same_tet name leaf_name) [

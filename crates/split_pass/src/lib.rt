@@ -12,3 +12,6 @@ mod root;
 
 pub use fault::SplitFault;
 pub use pass::split;
+
+#[cfg(test)]
+mod tests;

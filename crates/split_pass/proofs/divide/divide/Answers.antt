@@ -20,7 +20,7 @@ returns-clause-first g c =
     let list_1 = m.lists (held c.args.work.now) c.requires.stands id id_a id_b ∙ was in
     let sent = c.in_ok-send_all.ensures.first T is M list_1 in
     let all = filled s1 h.first (held c.args.work.now) M (first_part T M) (told_list c.send_all.new.streams (held c.send_all.new.work) h.first)
-      (λ bytes e. m.list_first bytes (c.requires.stands bytes e)) sent told.0 told.1 in
+    (λ bytes e. m.list_first bytes (c.requires.stands bytes e)) sent told.0 told.1 in
     c.in_ok-give_back.ensures.others.lists h.first (λ same. id_a (sym same)) ∙ all
 
 pub returns-clause-second : goal.returns-clause-second
@@ -38,5 +38,5 @@ returns-clause-second g c =
     let list_1 = m.lists (held c.args.work.now) c.requires.stands id id_a id_b ∙ was in
     let sent = c.in_ok-send_all.ensures.second T is M list_1 in
     let all = filled s1 h.second (held c.args.work.now) M (second_part T M) (told_list c.send_all.new.streams (held c.send_all.new.work) h.second)
-      (λ bytes e. m.list_second bytes (c.requires.stands bytes e)) sent told.0 told.1 in
+    (λ bytes e. m.list_second bytes (c.requires.stands bytes e)) sent told.0 told.1 in
     c.in_ok-give_back.ensures.others.lists h.second (λ same. id_b (sym same)) ∙ all

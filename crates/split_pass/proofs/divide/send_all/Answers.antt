@@ -37,21 +37,21 @@ triangles-preserved g c =
       given = grind (arith, common_steps);
       follows = send.cursors c.read.new.at read.cursor;
       first = λ T is M was.
-        let here : slice_get M c.triangles.at.given ≡ Some c.in-Some.t = sym (read.next M (ap before inv.stream ∙ id_list ∙ was)) ∙ c.in-Some.is in
-        rw one (more_gone (λ (t : Tri). not (is_beyond t T)) M c.triangles.at.given c.in-Some.t (old h.first) (during h.first) (now h.first) here
+          let here : slice_get M c.triangles.at.given ≡ Some c.in-Some.t = sym (read.next M (ap before inv.stream ∙ id_list ∙ was)) ∙ c.in-Some.is in
+          rw one (more_gone (λ (t : Tri). not (is_beyond t T)) M c.triangles.at.given c.in-Some.t (old h.first) (during h.first) (now h.first) here
           (read.all.lists h.first ∙ inv.first T is M was) (send.first T is));
       second = λ T is M was.
-        let here : slice_get M c.triangles.at.given ≡ Some c.in-Some.t = sym (read.next M (ap before inv.stream ∙ id_list ∙ was)) ∙ c.in-Some.is in
-        rw one (more_gone (λ (t : Tri). is_beyond t T) M c.triangles.at.given c.in-Some.t (old h.second) (during h.second) (now h.second) here
+          let here : slice_get M c.triangles.at.given ≡ Some c.in-Some.t = sym (read.next M (ap before inv.stream ∙ id_list ∙ was)) ∙ c.in-Some.is in
+          rw one (more_gone (λ (t : Tri). is_beyond t T) M c.triangles.at.given c.in-Some.t (old h.second) (during h.second) (now h.second) here
           (read.all.lists h.second ∙ inv.second T is M was) (send.second T is));
       live_first = send.live_first;
       live_second = send.live_second;
       sizes =
-        let a = ap (λ o. unwrap_or o 0) (read.all.counts h.first) in
-        let b = ap (λ o. unwrap_or o 0) (read.all.counts h.second) in
-        let s = send.sizes in
-        let t = inv.sizes in
-        omega arith;
+          let a = ap (λ o. unwrap_or o 0) (read.all.counts h.first) in
+          let b = ap (λ o. unwrap_or o 0) (read.all.counts h.second) in
+          let s = send.sizes in
+          let t = inv.sizes in
+          omega arith;
       others = record {
         counts = λ x a b. send.others.counts x a b ∙ read.all.counts x ∙ inv.others.counts x a b;
         lists = λ x a b. send.others.lists x a b ∙ read.all.lists x ∙ inv.others.lists x a b;

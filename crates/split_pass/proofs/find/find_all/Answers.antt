@@ -34,7 +34,7 @@ returns-in_err-find-clause-too_many g c = λ e. λ M was.
     let list = c.in_ok-id.ensures.list M (c.slots.invariant.list ∙ was) in
     let n = 3 * l - level_of l (point_of c.root.result.centre) in
     let much = c.find.ensures.too_many (c.in_err-find.was ∙ sym (ap Err p.2) ∙ sym p.1 ∙ e) (root_slot_of l slot) is (root_part M slot) list
-      (with_roots l c.args.cap M slot) (c.slots.invariant.found M was)
+    (with_roots l c.args.cap M slot) (c.slots.invariant.found M was)
     in
     root_too_many l n c.args.cap M slot (omega arith) within much
 
@@ -61,8 +61,8 @@ slots-preserved g c =
       list = ends.lists c.args.whole apart live_1 ∙ adds.lists c.args.whole apart ∙ inv.list;
       total = omega arith;
       found = λ M was.
-      root_found l n c.args.cap M slot c.find.new.closing.set (omega arith)
-      (c.in_ok-find.ensures.found (root_slot_of l slot) is (root_part M slot) (c.in_ok-id.ensures.list M (inv.list ∙ was)) (with_roots l c.args.cap M slot) (inv.found M was));
+          root_found l n c.args.cap M slot c.find.new.closing.set (omega arith)
+          (c.in_ok-find.ensures.found (root_slot_of l slot) is (root_part M slot) (c.in_ok-id.ensures.list M (inv.list ∙ was)) (with_roots l c.args.cap M slot) (inv.found M was));
       room = c.in_ok-find.ensures.room;
       level = c.in_ok-find.ensures.l;
       stays = record {

@@ -35,7 +35,7 @@ returns-clause-patches g c = λ M was.
     let l = ap (λ (graph : GraphState). graph.l) c.in_ok-graph.ensures ∙ c.in_ok-find_all.ensures.l ∙ level in
     let placed = c.in_ok-place_all.ensures.held M (c.in_ok-find_all.ensures.list ∙ was) in
     let kept = holds_after c.in_ok-graph.graph.l (centres c.in_ok-graph.graph) c.args.whole M c.place_all.new.leaves c.place_all.new.streams c.give_back.new.self
-      (held c.place_all.new.work) (held c.give_back.new.blob) c.in_ok-place_all.ensures.tidy c.in_ok-give_back.ensures.others placed
+    (held c.place_all.new.work) (held c.give_back.new.blob) c.in_ok-place_all.ensures.tidy c.in_ok-give_back.ensures.others placed
     in
     subst (λ (n : ℕ). HoldsPatches n (split_set c.args.streams.now.l c.args.cap M) M c.place_all.new.leaves c.give_back.new.self (held c.give_back.new.blob)) l
     (subst (λ (F : List Point). HoldsPatches c.in_ok-graph.graph.l F M c.place_all.new.leaves c.give_back.new.self (held c.give_back.new.blob)) all kept)
@@ -53,4 +53,4 @@ returns-clause-names g c =
     let l = ap (λ (graph : GraphState). graph.l) c.in_ok-graph.ensures ∙ c.in_ok-find_all.ensures.l ∙ level in
     subst (λ (n : ℕ). NamesStreams n (centres c.in_ok-graph.graph) c.place_all.new.leaves c.give_back.new.self) l
     (names_after c.in_ok-graph.graph.l (centres c.in_ok-graph.graph) c.args.whole c.place_all.new.leaves c.place_all.new.streams c.give_back.new.self
-      (held c.place_all.new.work) (held c.give_back.new.blob) c.in_ok-place_all.ensures.tidy c.in_ok-give_back.ensures.others)
+    (held c.place_all.new.work) (held c.give_back.new.blob) c.in_ok-place_all.ensures.tidy c.in_ok-give_back.ensures.others)

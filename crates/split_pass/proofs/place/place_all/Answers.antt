@@ -43,7 +43,7 @@ triangles-smaller g c =
     let live : IsLive c.triangles.streams c.triangles.at.stream = rw inv.stream inv.tidy.whole_live in
     let all : size_of c.triangles.streams c.triangles.at.stream ≡ size_of c.args.streams.now c.args.whole = ap (size_of c.triangles.streams) inv.stream ∙ same in
     let more = reads_more c.triangles.streams c.triangles.at.stream c.triangles.at.given (size_of c.args.streams.now c.args.whole) c.in_ok-t.field-0 c.in-Some.t
-      live all inv.given read.end c.in-Some.is
+    live all inv.given read.end c.in-Some.is
     in
     let one : c.read.new.at.given ≡ c.triangles.at.given + 1 = grind (arith, common_steps) in
     omega arith
@@ -64,7 +64,7 @@ triangles-preserved g c =
     let live : IsLive c.triangles.streams c.triangles.at.stream = rw inv.stream inv.tidy.whole_live in
     let all : size_of c.triangles.streams c.triangles.at.stream ≡ size_of c.args.streams.now whole = ap (size_of c.triangles.streams) inv.stream ∙ same in
     let more = reads_more c.triangles.streams c.triangles.at.stream c.triangles.at.given (size_of c.args.streams.now whole) c.in_ok-t.field-0 c.in-Some.t
-      live all inv.given read.end c.in-Some.is
+    live all inv.given read.end c.in-Some.is
     in
     let one : c.read.new.at.given ≡ c.triangles.at.given + 1 = grind (arith, common_steps) in
     let tidy = tidy_same L F whole c.triangles.leaves c.triangles.streams c.read.new.self (held c.triangles.work) (held c.read.new.blob) read.all inv.tidy in
@@ -79,17 +79,17 @@ triangles-preserved g c =
       given = omega arith;
       follows = places.cursors c.read.new.at (λ at. apart (sym (read.stream ∙ inv.stream) ∙ at)) read.cursor;
       tidy = still_tidy L F whole p.places.0 p.places.1 c.in-Some.t c.triangles.leaves c.place.new.leaves c.read.new.self c.place.new.streams
-        (held c.read.new.blob) (held c.place.new.work) T.0 T.1 (leaf_is L F c.in-Some.t T.0 leaf) tidy places;
+          (held c.read.new.blob) (held c.place.new.work) T.0 T.1 (leaf_is L F c.in-Some.t T.0 leaf) tidy places;
       count = places.counts whole apart ∙ read.all.counts whole ∙ inv.count;
       list = places.lists whole apart ∙ read.all.lists whole ∙ inv.list;
       patches = λ M was.
-        let here : slice_get M c.triangles.at.given ≡ Some c.in-Some.t = sym (read.next M (ap before inv.stream ∙ inv.list ∙ was)) ∙ c.in-Some.is in
-        let bytes = told_bytes c.read.new.self whole (held c.read.new.blob) M (read.all.lists whole ∙ inv.list ∙ was) in
-        let kept = holds_same L F (take c.triangles.at.given M) c.triangles.leaves c.triangles.streams c.read.new.self (held c.triangles.work) (held c.read.new.blob)
+          let here : slice_get M c.triangles.at.given ≡ Some c.in-Some.t = sym (read.next M (ap before inv.stream ∙ inv.list ∙ was)) ∙ c.in-Some.is in
+          let bytes = told_bytes c.read.new.self whole (held c.read.new.blob) M (read.all.lists whole ∙ inv.list ∙ was) in
+          let kept = holds_same L F (take c.triangles.at.given M) c.triangles.leaves c.triangles.streams c.read.new.self (held c.triangles.work) (held c.read.new.blob)
           read.all (inv.patches M was)
-        in
-        rw (one, one_more M c.triangles.at.given c.in-Some.t here)
-        (still_holds L F (take c.triangles.at.given M) whole p.places.0 p.places.1 c.in-Some.t c.triangles.leaves c.place.new.leaves c.read.new.self
+          in
+          rw (one, one_more M c.triangles.at.given c.in-Some.t here)
+          (still_holds L F (take c.triangles.at.given M) whole p.places.0 p.places.1 c.in-Some.t c.triangles.leaves c.place.new.leaves c.read.new.self
           c.place.new.streams (held c.read.new.blob) (held c.place.new.work) T.0 (names_each L c.requires.bound.most) T.1 leaf tidy bytes.0 bytes.1 kept places);
       total = omega arith;
       stays = record {
@@ -112,6 +112,6 @@ returns-clause-held g c =
     let none : slice_get M c.triangles.at.given ≡ None = sym (read.next M (ap before inv.stream ∙ inv.list ∙ was)) ∙ c.in_default.is in
     let all = all_taken M c.triangles.at.given none in
     let kept = holds_same L F (take c.triangles.at.given M) c.triangles.leaves c.triangles.streams c.read.new.self (held c.triangles.work) (held c.read.new.blob)
-      read.all (inv.patches M was)
+    read.all (inv.patches M was)
     in
     subst (λ (N : Mesh). HoldsPatches L F N c.triangles.leaves c.read.new.self (held c.read.new.blob)) all kept

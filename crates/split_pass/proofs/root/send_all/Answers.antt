@@ -35,8 +35,8 @@ triangles-preserved g c =
       given = grind (arith, common_steps);
       follows = send.cursors c.read.new.at read.cursor;
       list = λ M was.
-        let here : slice_get M c.triangles.at.given ≡ Some c.in-Some.t = sym (read.next M (ap before inv.stream ∙ whole_list ∙ was)) ∙ c.in-Some.is in
-        rw one (more_gone (is_in_root c.args.slot) M c.triangles.at.given c.in-Some.t (old id) (during id) (now id) here
+          let here : slice_get M c.triangles.at.given ≡ Some c.in-Some.t = sym (read.next M (ap before inv.stream ∙ whole_list ∙ was)) ∙ c.in-Some.is in
+          rw one (more_gone (is_in_root c.args.slot) M c.triangles.at.given c.in-Some.t (old id) (during id) (now id) here
           (read.all.lists id ∙ inv.list M was) send.list);
       live = send.live;
       counts = λ x ne. send.counts x ne ∙ read.all.counts x ∙ inv.counts x ne;
