@@ -33,7 +33,7 @@ on_front L t zero (suc m) k S h = elim h [ inl e ↦ (k, omega arith, e) | inr n
 on_front L t (suc n) (suc m) k S h =
     elim h [ inl e ↦ (k, omega arith, e) | inr r ↦ let q = on_front L t n m (suc k) S r in (q.0, omega (arith, q.1), q.2) ]
 
-front_on_path : (L : ℕ) (t : Tri) (S : Tetrahedron) → Member (take (3 * L) (path L t)) S → (i : ℕ) × (i < 3 * L) × (walk L t i ≡ S)
+pub front_on_path : (L : ℕ) (t : Tri) (S : Tetrahedron) → Member (take (3 * L) (path L t)) S → (i : ℕ) × (i < 3 * L) × (walk L t i ≡ S)
 unfolding walk path
 front_on_path L t S m = let r = on_front L t (3 * L) (3 * L) 0 S m in (r.0, omega (arith, r.1), r.2)
 

@@ -5,3 +5,4 @@ pub mod Leans
 pub mod Near
 pub mod Names
 pub mod Splits
+pub mod Standing

@@ -74,7 +74,7 @@ others b l lists lists' id e told p = record {
   counts = λ x ne. same_count b l lists lists' x (p.others x.place (other_place x id ne));
   lists = λ x ne. same_list b l lists lists' x told (p.others x.place (other_place x id ne));
   cursors = λ at ne f.
-    same_cursor (state b l lists) (state b l lists') at told (same_count b l lists lists' at.stream (p.others at.stream.place (other_place at.stream id ne))) f;
+      same_cursor (state b l lists) (state b l lists') at told (same_count b l lists lists' at.stream (p.others at.stream.place (other_place at.stream id ne))) f;
 }
 
 pub keeps : (b l : ℕ) (lists lists' : List (Option Mesh)) (told : Option (List ℕ)) → Keeps (state b l lists) (state b l lists') told told
@@ -104,11 +104,11 @@ held_put l lists lists' place e p good all x =
     elim (cases_lt x place) [
       | inl h ↦ λ list is. all x list (sym (p.others x (λ same. omega arith)) ∙ is)
       | inr h ↦ elim (cases_lt place x) [
-          | inl h' ↦ λ list is. all x list (sym (p.others x (λ same. omega arith)) ∙ is)
-          | inr h' ↦
-              let same : x ≡ place = omega arith in
-              λ list is. good list (sym p.here ∙ ap (list_at lists') (sym same) ∙ is)
-        ]
+        | inl h' ↦ λ list is. all x list (sym (p.others x (λ same. omega arith)) ∙ is)
+        | inr h' ↦
+            let same : x ≡ place = omega arith in
+            λ list is. good list (sym p.here ∙ ap (list_at lists') (sym same) ∙ is)
+      ]
     ]
 
 -- a list is no longer than all together
@@ -210,13 +210,13 @@ pushed_cursors b l lists lists' id t told p at f =
     elim (cases_lt at.stream.place id.place) [
       | inl h ↦ same_cursor (state b l lists) (state b l lists') at told (same_count b l lists lists' at.stream (p.put.others at.stream.place (λ same. omega arith))) f
       | inr h ↦ elim (cases_lt id.place at.stream.place) [
-          | inl h' ↦
-              same_cursor (state b l lists) (state b l lists') at told (same_count b l lists lists' at.stream (p.put.others at.stream.place (λ same. omega arith))) f
-          | inr h' ↦
-              let same : id.place ≡ at.stream.place = omega arith in
-              let P : ℕ → Type 0 = λ place. Pushed lists lists' place t in
-              more_given (state b l lists) (state b l lists') told at (pushed_count b l lists lists' at.stream t (subst P same p)) f
-        ]
+        | inl h' ↦
+            same_cursor (state b l lists) (state b l lists') at told (same_count b l lists lists' at.stream (p.put.others at.stream.place (λ same. omega arith))) f
+        | inr h' ↦
+            let same : id.place ≡ at.stream.place = omega arith in
+            let P : ℕ → Type 0 = λ place. Pushed lists lists' place t in
+            more_given (state b l lists) (state b l lists') told at (pushed_count b l lists lists' at.stream t (subst P same p)) f
+      ]
     ]
 
 pub pushed_held : (l : ℕ) (lists lists' : List (Option Mesh)) (place : ℕ) (t : Tri) → Pushed lists lists' place t → IsHeld l t → AllHeld l lists → AllHeld l lists'
@@ -290,3 +290,6 @@ given_whole l list i all =
 
 pub given_cube : (l : ℕ) (list : Mesh) (i : ℕ) → All (IsHeld l) list → IfSome (slice_get list i) (IsTriInCube l)
 given_cube l list i all = some_weaker (slice_get list i) (IsHeld l) (IsTriInCube l) (λ t h. h.cube) (given_held (IsHeld l) list i all)
+
+pub pushed_live : (b l : ℕ) (lists lists' : List (Option Mesh)) (id : StreamId) (t : Tri) → Pushed lists lists' id.place t → IsLive (state b l lists') id
+pushed_live b l lists lists' id t p = rw (counted b l lists' id (p.list ++ t ∷ []) p.put.here) refl

@@ -9,3 +9,6 @@ mod table;
 pub use fault::StreamFault;
 pub use names::{Cursor, StreamId};
 pub use streams::Streams;
+
+#[cfg(test)]
+mod tests;

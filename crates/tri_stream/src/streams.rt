@@ -74,18 +74,14 @@ impl Streams {
     }
 
     /// Adds a triangle at the end of a stream. After a refusal all streams are as before.
-    pub fn append<B: Blob>(
-        &mut self,
-        blob: &mut B,
-        id: StreamId,
-        t: Tri,
-    ) -> Result<(), StreamFault>
+    pub fn append<B: Blob>(&mut self, blob: &mut B, id: StreamId, t: Tri) -> Result<(), StreamFault>
         requires live { IsLive self.old id }
         requires stands { ForSome (B.held blob.old) (Stands self.old) }
         requires whole { IsTrue (is_whole t) }
         requires cube { IsTriInCube self.old.l t }
         requires few { total self.old < 2 ^ 40 }
         ensures count { OnOk result (count_of self.new id ≡ option_map (λ n. n + 1) (count_of self.old id)) }
+        ensures live { IsLive self.new id }
         ensures list { OnOk result (told_list self.new (B.held blob.new) id ≡ option_map (λ list. list ++ t ∷ []) (told_list self.old (B.held blob.old) id)) }
         ensures others { OnOk result (LeavesOthers id self.old self.new (B.held blob.old) (B.held blob.new)) }
         ensures cursors { (at : Cursor) → Follows self.old (B.held blob.old) at → Follows self.new (B.held blob.new) at }

@@ -124,7 +124,11 @@ impl Table {
     {
         match self.take_free() {
             Some(place) => {
-                put(&mut self.slots, place as usize, Slot::Taken(Vec::new(alloc)));
+                put(
+                    &mut self.slots,
+                    place as usize,
+                    Slot::Taken(Vec::new(alloc)),
+                );
                 Ok(place)
             }
             None => self.add_last(alloc),

@@ -1,7 +1,7 @@
 -- The list that gets the triangle is the only one that changes.
 use Rattle.std.proofs.Common.{◌≡◌, Some, [], ◌∷◌, ◌++◌, length, arith, refl}
 use Rattle.tri_stream.specs.Lists.{list_at, Puts, IsHeld}
-use Rattle.tri_stream.proofs.Words.{keeps, leaves_all, live_list, others, pushed, pushed_count, pushed_cursors, pushed_held, pushed_list, pushed_total, state, Pushed}
+use Rattle.tri_stream.proofs.Words.{keeps, leaves_all, live_list, others, pushed, pushed_count, pushed_cursors, pushed_held, pushed_list, pushed_live, pushed_total, state, Pushed}
 use Rattle.tri_stream.proofs.streams.Streams.append.Goals as goal
 use Rattle.tri_stream.proofs.streams.Streams.append.Goals.{in-Ok, in-Err}
 
@@ -42,7 +42,7 @@ returns-clause-list g c =
       | in-Ok v ↦
           rw (v.result-is, ← c.self.view_is)
           (pushed_list a.base a.l a.lists c.push.new.self c.args.id c.args.t (g.B.Blob.held c.args.blob.now)
-            (pushed s c.push.new.self c.args.id c.args.t live v.in-Ok.ensures.added))
+          (pushed s c.push.new.self c.args.id c.args.t live v.in-Ok.ensures.added))
       | in-Err v ↦ rw v.result-is tt
     ]
 
@@ -68,7 +68,7 @@ returns-clause-cursors g c =
       | in-Ok v ↦
           rw (← c.self.view_is)
           (pushed_cursors a.base a.l a.lists c.push.new.self c.args.id c.args.t (g.B.Blob.held c.args.blob.now)
-            (pushed s c.push.new.self c.args.id c.args.t live v.in-Ok.ensures.added))
+          (pushed s c.push.new.self c.args.id c.args.t live v.in-Ok.ensures.added))
       | in-Err v ↦ rw (v.in-Err.ensures.err, c.self.view_is) (λ at f. f)
     ]
 
@@ -88,3 +88,13 @@ pub returns-clause-kept : goal.returns-clause-kept
 returns-clause-kept g c =
     let a = c.self.inside in
     rw (← c.self.view_is) (keeps a.base a.l a.lists c.push.new.self (g.B.Blob.held c.args.blob.now))
+
+pub returns-clause-live : goal.returns-clause-live
+returns-clause-live g c =
+    let a = c.self.inside in
+    let s = state a.base a.l a.lists in
+    let live = rw (← c.self.view_is) at c.requires.live in
+    elim c.match-push.branch [
+      | in-Ok v ↦ pushed_live a.base a.l a.lists c.push.new.self c.args.id c.args.t (pushed s c.push.new.self c.args.id c.args.t live v.in-Ok.ensures.added)
+      | in-Err v ↦ rw (v.in-Err.ensures.err, c.self.view_is) c.requires.live
+    ]

@@ -34,8 +34,8 @@ returns-clause-next g c =
     let r = reading (state a.base a.l a.lists) (g.B.Blob.held c.args.blob.now) at f in
     rw (← c.self.view_is)
     (λ x is.
-      let same = told_reads a.base a.l a.lists at.stream r.list x (g.B.Blob.held c.args.blob.now) r.was is in
-      c.get-next.ensures.next r.list r.was ∙ ap (λ list. slice_get list at.given) (sym same))
+    let same = told_reads a.base a.l a.lists at.stream r.list x (g.B.Blob.held c.args.blob.now) r.was is in
+    c.get-next.ensures.next r.list r.was ∙ ap (λ list. slice_get list at.given) (sym same))
 
 pub returns-clause-end : goal.returns-clause-end
 returns-clause-end g c =
@@ -75,6 +75,6 @@ returns-clause-cursor g c =
           let more = given_more r.list at.given (ap is_some (sym is) ∙ sym c.is_some.ensures ∙ w.if-is_some.true) in
           rw (w.at-is, ← c.self.view_is)
           (gone_on a.base a.l a.lists (g.B.Blob.held c.args.blob.now) (record { stream = at.stream; given = at.given + 1 })
-            (record { list = r.list; was = r.was; within = omega arith }))
+          (record { list = r.list; was = r.was; within = omega arith }))
       | else-is_some w ↦ rw w.at-is c.requires.cursor
     ]

@@ -1,0 +1,7 @@
+mod Dividing
+mod Moving
+mod Crowding
+mod Rooting
+mod CrowdLaw
+mod Naming
+mod Placing

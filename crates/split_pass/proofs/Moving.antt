@@ -1,0 +1,159 @@
+-- Streams that are made, filled and ended, one step after another.
+use Rattle.std.proofs.Common.{◌≡◌, ◌≢◌, ℕ, ◌+◌, ◌++◌, ◌∷◌, ◌≤◌, [], List, Option, Some, None, refl, sym, ◌∙◌, ap, subst, inl, inr, ◌⊎◌, arith}
+use Rattle.std.specs.Prelude.{IsSome}
+use Rattle.std.specs.Option.{ForSome, option_map, unwrap_or}
+use Rattle.std.proofs.lemmas.Bool.{cases_lt}
+use Rattle.tpz_base.specs.Meshes.{Mesh}
+use Rattle.tri_stream.specs.declared.names.StreamId.{StreamId}
+use Rattle.tri_stream.specs.Streams.{StreamsState, count_of, list_of, told_list, total, IsLive, LeavesOthers, Stands}
+use Rattle.split_pass.specs.Moves.{size_of, Divides, Ends, LeavesAllBut, MakesTwo, Stays}
+
+-- What `make` says.
+pub record Makes (id : StreamId) (old new : StreamsState) : Type 0 where
+  pub fresh : count_of old id ≡ None
+  pub count : count_of new id ≡ Some 0
+  pub list : (bytes : List ℕ) → Stands old bytes → list_of new bytes id ≡ []
+  pub others : (told : Option (List ℕ)) → ForSome told (Stands old) → LeavesOthers id old new told told
+  pub total : total new ≡ total old
+  pub base : new.base ≡ old.base
+  pub l : new.l ≡ old.l
+  pub stands : (bytes : List ℕ) → Stands old bytes → Stands new bytes
+
+nothing_told : (s : StreamsState) → ForSome None (Stands s)
+nothing_told s = λ bytes is. absurd cc
+
+one_told : (s : StreamsState) (bytes : List ℕ) → Stands s bytes → ForSome (Some bytes) (Stands s)
+one_told s bytes h = λ bytes' is. let e : bytes ≡ bytes' = cc in subst (Stands s) e h
+
+-- two names with different counts differ
+pub differ : (s : StreamsState) (x y : StreamId) (n : ℕ) → count_of s x ≡ Some n → count_of s y ≡ None → x ≢ y
+differ s x y n a b = λ same. let c = ap (count_of s) same in absurd cc
+
+pub live_differs : (s : StreamsState) (x y : StreamId) → IsLive s x → count_of s y ≡ None → x ≢ y
+live_differs s x y live none = λ same. let c = ap (count_of s) same in let d : count_of s x ≡ None = c ∙ none in absurd (none_live (rw d at live))
+  where
+    none_live : IsSome {T = ℕ} None → ⊥
+    none_live h = cc
+
+pub made_two : (a b : StreamId) (s0 s1 s2 : StreamsState) → Makes a s0 s1 → Makes b s1 s2 → MakesTwo a b s0 s2
+made_two a b s0 s1 s2 m n =
+    let apart : a ≢ b = differ s1 a b 0 m.count n.fresh in
+    let others_0 = m.others None (nothing_told s0) in
+    let others_1 = n.others None (nothing_told s1) in
+    record {
+      fresh_first = m.fresh;
+      fresh_second = sym (others_0.counts b (λ same. apart (sym same))) ∙ n.fresh;
+      apart = apart;
+      count_first = others_1.counts a apart ∙ m.count;
+      count_second = n.count;
+      counts = λ x x_a x_b. others_1.counts x x_b ∙ others_0.counts x x_a;
+      total = n.total ∙ m.total;
+      stands = λ bytes h. n.stands bytes (m.stands bytes h);
+      list_first = λ bytes h.
+          (let told = (n.others (Some bytes) (one_told s1 bytes (m.stands bytes h))).lists a apart in
+          let same : list_of s2 bytes a ≡ list_of s1 bytes a = cc in same ∙ m.list bytes h);
+      list_second = λ bytes h. n.list bytes (m.stands bytes h);
+      lists = λ told h x x_a x_b.
+          (n.others told (λ bytes is. m.stands bytes (h bytes is))).lists x x_b ∙ (m.others told h).lists x x_a;
+      base = n.base ∙ m.base;
+      l = n.l ∙ m.l;
+    }
+
+-- What moving all triangles of a stream into two others says.
+pub record Sends (id a b : StreamId) (old new : StreamsState) (before now : Option (List ℕ)) : Type 0 where
+  pub live_first : IsLive new a
+  pub live_second : IsLive new b
+  pub sizes : size_of new a + size_of new b ≡ size_of old a + size_of old b + size_of old id
+  pub others : LeavesAllBut a b old new before now
+  pub total : total new ≡ total old + size_of old id
+
+-- What `give_back` says.
+pub record GivesBack (id : StreamId) (old new : StreamsState) (before now : Option (List ℕ)) : Type 0 where
+  pub ended : count_of new id ≡ None
+  pub others : LeavesOthers id old new before now
+  pub total : ForSome (count_of old id) (λ n. total new + n ≡ total old)
+
+size : (s : StreamsState) (x : StreamId) (n : ℕ) → count_of s x ≡ Some n → size_of s x ≡ n
+size s x n is = ap (λ o. unwrap_or o 0) is
+
+pub same_size : (s s' : StreamsState) (x : StreamId) → count_of s' x ≡ count_of s x → size_of s' x ≡ size_of s x
+same_size s s' x is = ap (λ o. unwrap_or o 0) is
+
+given : (o : Option ℕ) → IsSome o → (n : ℕ) × (o ≡ Some n)
+given None h = absurd cc
+given (Some n) h = (n, refl)
+
+pub live_size : (s : StreamsState) (x : StreamId) → IsLive s x → count_of s x ≡ Some (size_of s x)
+live_size s x live = let g = given (count_of s x) live in g.1 ∙ sym (ap Some (size s x g.0 g.1))
+
+pub divided : (id a b : StreamId) (s0 s1 s2 s3 : StreamsState) (h0 h2 h3 : Option (List ℕ)) → IsLive s0 id → ForSome h0 (Stands s0) → MakesTwo a b s0 s1
+    → Sends id a b s1 s2 h0 h2 → GivesBack id s2 s3 h2 h3 → Divides id a b s0 s3 h0 h3
+divided id a b s0 s1 s2 s3 h0 h2 h3 live stands m n g =
+    let id_a = live_differs s0 id a live m.fresh_first in
+    let id_b = live_differs s0 id b live m.fresh_second in
+    let a_id : a ≢ id = λ same. id_a (sym same) in
+    let b_id : b ≢ id = λ same. id_b (sym same) in
+    let count_1 : count_of s1 id ≡ count_of s0 id = m.counts id id_a id_b in
+    let count_2 : count_of s2 id ≡ count_of s0 id = n.others.counts id id_a id_b ∙ count_1 in
+    let size_1 = same_size s0 s1 id count_1 in
+    let size_a = size s1 a 0 m.count_first in
+    let size_b = size s1 b 0 m.count_second in
+    let count_a = g.others.counts a a_id in
+    let count_b = g.others.counts b b_id in
+    let size_a' = same_size s2 s3 a count_a in
+    let size_b' = same_size s2 s3 b count_b in
+    let last = g.total (size_of s0 id) (count_2 ∙ live_size s0 id live) in
+    let sent = n.sizes in
+    let more = n.total in
+    let made = m.total in
+    record {
+      fresh_first = m.fresh_first;
+      fresh_second = m.fresh_second;
+      apart = m.apart;
+      live_first = rw count_a n.live_first;
+      live_second = rw count_b n.live_second;
+      sizes = omega arith;
+      ended = g.ended;
+      counts = λ x x_id x_a x_b. g.others.counts x x_id ∙ n.others.counts x x_a x_b ∙ m.counts x x_a x_b;
+      lists = λ x x_id x_live.
+          (let x_a = live_differs s0 x a x_live m.fresh_first in
+          let x_b = live_differs s0 x b x_live m.fresh_second in g.others.lists x x_id ∙ n.others.lists x x_a x_b ∙ m.lists h0 stands x x_a x_b);
+      total = omega arith;
+    }
+
+-- the list of a stream that was made empty and filled
+pub filled : (s1 : StreamsState) (x : StreamId) (h : Option (List ℕ)) (M more : Mesh) (o : Option Mesh) → ((bytes : List ℕ) → h ≡ Some bytes → list_of s1 bytes x ≡ [])
+    → o ≡ option_map (λ list. list ++ more) (told_list s1 h x) → (bytes : List ℕ) → h ≡ Some bytes → o ≡ Some more
+filled s1 x h M more o none is bytes told =
+    let here : told_list s1 h x ≡ Some [] = ap (option_map (λ (bytes : List ℕ). list_of s1 bytes x)) told ∙ ap Some (none bytes told) in
+    is ∙ ap (option_map (λ list. list ++ more)) here
+
+-- whoever tells a list tells bytes
+pub told_bytes : (s : StreamsState) (x : StreamId) (h : Option (List ℕ)) (M : Mesh) → told_list s h x ≡ Some M → (bytes : List ℕ) × (h ≡ Some bytes)
+told_bytes s x None M is = absurd cc
+told_bytes s x (Some bytes) M is = (bytes, refl)
+
+-- two names are the same or not
+pub same_name : (x y : StreamId) → (x ≡ y) ⊎ (x ≢ y)
+same_name x y =
+    elim (cases_lt x.place y.place) [
+      | inl h ↦ inr (λ same. let p : x.place ≡ y.place = ap (λ (id : StreamId). id.place) same in omega arith)
+      | inr h ↦ elim (cases_lt y.place x.place) [
+        | inl h' ↦ inr (λ same. let p : x.place ≡ y.place = ap (λ (id : StreamId). id.place) same in omega arith)
+        | inr h' ↦
+            let p : x.place ≡ y.place = omega arith in
+            inl (ap (λ (place : ℕ). let id : StreamId = record { place = place } in id) p)
+      ]
+    ]
+
+pub live_as_before : (s s' : StreamsState) (x : StreamId) → count_of s' x ≡ count_of s x → IsLive s x → IsLive s' x
+live_as_before s s' x same live = rw same live
+
+-- a stream that was made and has ended leaves every count as it was
+pub same_after : (id : StreamId) (s0 s1 s2 : StreamsState) (x : StreamId) → count_of s0 id ≡ None → ((y : StreamId) → y ≢ id → count_of s1 y ≡ count_of s0 y)
+    → ((y : StreamId) → y ≢ id → count_of s2 y ≡ count_of s1 y) → count_of s2 id ≡ None → count_of s2 x ≡ count_of s0 x
+same_after id s0 s1 s2 x fresh made ends ended =
+    elim (same_name x id) [
+      | inl is ↦ let a = ap (count_of s2) is in let b = ap (count_of s0) is in a ∙ ended ∙ sym (b ∙ fresh)
+      | inr ne ↦ ends x ne ∙ made x ne
+    ]

@@ -1,0 +1,56 @@
+-- The search has found what is split, and the triangles of each leaf are in its stream.
+use Rattle.std.proofs.Common.{◌≡◌, ◌≤◌, ◌<◌, ◌∙◌, ℕ, List, Err, Some, length, sym, ap, subst}
+use Rattle.std.proofs.lemmas.Result.{err_from_is_err_and}
+use Rattle.tpz_base.specs.declared.shape.Point.{Point}
+use Rattle.tpz_base.specs.Meshes.{Mesh}
+use Rattle.diamond_graph.specs.Adding.{most_centres}
+use Rattle.diamond_graph.specs.Graphs.{centres, GraphState}
+use Rattle.assign.specs.Splits.{split_set}
+use Rattle.assign.specs.Standing.{HoldsPatches, NamesStreams}
+use Rattle.split_pass.specs.declared.fault.SplitFault.TheVariants as SplitFault
+use Rattle.split_pass.proofs.CrowdLaw.{found_split}
+use Rattle.split_pass.proofs.Placing.{err_same, holds_after, names_after, sealed}
+use Rattle.split_pass.proofs.pass.split.Goals as goal
+
+pub returns-in_err-find_all-clause-too_many : goal.returns-in_err-find_all-clause-too_many
+returns-in_err-find_all-clause-too_many g c = λ e. λ M was.
+    let level = c.l-l.ensures.l ∙ c.requires.l in
+    let p = err_from_is_err_and c.from_residual.result c.from_residual.ensures.1 in
+    let much = c.find_all.ensures.too_many (c.in_err-find_all.was ∙ ap Err (sym p.2 ∙ err_same c.from_residual.result p.0 SplitFault.TooManyRecords p.1 e)) M was in
+    let is = found_split c.l-l.result c.args.cap M ∙ ap (λ (n : ℕ). split_set n c.args.cap M) level in
+    subst (λ (F : List Point). most_centres < length F) is much
+
+pub returns-clause-graph : goal.returns-clause-graph
+returns-clause-graph g c = λ M was.
+    let level = c.l-l.ensures.l ∙ c.requires.l in
+    let is = c.in_ok-find_all.ensures.found M was ∙ found_split c.l-l.result c.args.cap M ∙ ap (λ (n : ℕ). split_set n c.args.cap M) level in
+    ap centres c.in_ok-graph.ensures ∙ sealed c.find_all.new.closing.set ∙ is
+
+pub returns-clause-patches : goal.returns-clause-patches
+returns-clause-patches g c = λ M was.
+    let held = g.B.Blob.held in
+    let level = c.l-l.ensures.l ∙ c.requires.l in
+    let is = c.in_ok-find_all.ensures.found M was ∙ found_split c.l-l.result c.args.cap M ∙ ap (λ (n : ℕ). split_set n c.args.cap M) level in
+    let all = ap centres c.in_ok-graph.ensures ∙ sealed c.find_all.new.closing.set ∙ is in
+    let l = ap (λ (graph : GraphState). graph.l) c.in_ok-graph.ensures ∙ c.in_ok-find_all.ensures.l ∙ level in
+    let placed = c.in_ok-place_all.ensures.held M (c.in_ok-find_all.ensures.list ∙ was) in
+    let kept = holds_after c.in_ok-graph.graph.l (centres c.in_ok-graph.graph) c.args.whole M c.place_all.new.leaves c.place_all.new.streams c.give_back.new.self
+    (held c.place_all.new.work) (held c.give_back.new.blob) c.in_ok-place_all.ensures.tidy c.in_ok-give_back.ensures.others placed
+    in
+    subst (λ (n : ℕ). HoldsPatches n (split_set c.args.streams.now.l c.args.cap M) M c.place_all.new.leaves c.give_back.new.self (held c.give_back.new.blob)) l
+    (subst (λ (F : List Point). HoldsPatches c.in_ok-graph.graph.l F M c.place_all.new.leaves c.give_back.new.self (held c.give_back.new.blob)) all kept)
+
+pub returns-clause-few : goal.returns-clause-few
+returns-clause-few g c = λ M was.
+    let level = c.l-l.ensures.l ∙ c.requires.l in
+    let is = c.in_ok-find_all.ensures.found M was ∙ found_split c.l-l.result c.args.cap M ∙ ap (λ (n : ℕ). split_set n c.args.cap M) level in
+    subst (λ (F : List Point). length F ≤ most_centres) is c.in_ok-find_all.ensures.room
+
+pub returns-clause-names : goal.returns-clause-names
+returns-clause-names g c =
+    let held = g.B.Blob.held in
+    let level = c.l-l.ensures.l ∙ c.requires.l in
+    let l = ap (λ (graph : GraphState). graph.l) c.in_ok-graph.ensures ∙ c.in_ok-find_all.ensures.l ∙ level in
+    subst (λ (n : ℕ). NamesStreams n (centres c.in_ok-graph.graph) c.place_all.new.leaves c.give_back.new.self) l
+    (names_after c.in_ok-graph.graph.l (centres c.in_ok-graph.graph) c.args.whole c.place_all.new.leaves c.place_all.new.streams c.give_back.new.self
+    (held c.place_all.new.work) (held c.give_back.new.blob) c.in_ok-place_all.ensures.tidy c.in_ok-give_back.ensures.others)

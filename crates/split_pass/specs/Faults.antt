@@ -1,0 +1,9 @@
+-- The faults of a set of diamonds as faults of a split.
+use Rattle.diamond_graph.specs.declared.ancestors.ClosingFault.{ClosingFault}
+use Rattle.diamond_graph.specs.declared.ancestors.ClosingFault as closing
+use Rattle.split_pass.specs.declared.fault.SplitFault.{SplitFault}
+use Rattle.split_pass.specs.declared.fault.SplitFault as split
+
+abbrev pub fault_of : ClosingFault → SplitFault
+fault_of closing.TheVariants.TooManyRecords = split.TheVariants.TooManyRecords
+fault_of closing.TheVariants.Memory = split.TheVariants.Memory

@@ -1,0 +1,105 @@
+-- What moving triangles between streams changes.
+use Rattle.std.specs.Prelude.{◌≡◌, ◌≢◌, ◌≤◌, ◌⊎◌, ℕ, ◌+◌, ◌∷◌, ◌++◌, List, [], Option, is_some, if◌then◌else◌}
+use Rattle.std.specs.FinMap.{get}
+use Rattle.tetra_name.specs.declared.shape.Tet.{Tet}
+use Rattle.assign.specs.Names.{LeafTable}
+use Rattle.assign.specs.Standing.{NamesStreams}
+use Rattle.tpz_base.specs.declared.shape.Point.{Point}
+use Rattle.tpz_base.specs.declared.shape.Tri.{Tri}
+use Rattle.tri_stream.specs.declared.names.Cursor.{Cursor}
+use Rattle.std.specs.Option.{ForSome, option_map, unwrap_or}
+use Rattle.std.specs.declared.option.Option.TheVariants.{None, Some}
+use Rattle.tri_stream.specs.declared.names.StreamId.{StreamId}
+use Rattle.tri_stream.specs.Streams.{StreamsState, count_of, list_of, told_list, total, Follows, IsLive, Stands}
+
+-- how many triangles a stream has; 0 where the name isn't live
+abbrev pub size_of : StreamsState → StreamId → ℕ
+size_of s id = unwrap_or (count_of s id) 0
+
+-- The cube is as before, and the bytes that are told are those that the streams left.
+pub record Stays (old new : StreamsState) (now : Option (List ℕ)) : Type 0 where
+  pub base : new.base ≡ old.base
+  pub l : new.l ≡ old.l
+  pub stands : ForSome now (Stands new)
+
+-- Every stream but these two is as before.
+pub record LeavesAllBut (a b : StreamId) (old new : StreamsState) (before now : Option (List ℕ)) : Type 0 where
+  pub counts : (x : StreamId) → x ≢ a → x ≢ b → count_of new x ≡ count_of old x
+  pub lists : (x : StreamId) → x ≢ a → x ≢ b → told_list new now x ≡ told_list old before x
+
+-- One stream has ended, and every other one that was live is as before. There is no other.
+pub record Ends (id : StreamId) (old new : StreamsState) (before now : Option (List ℕ)) : Type 0 where
+  pub ended : count_of new id ≡ None
+  pub counts : (x : StreamId) → x ≢ id → count_of new x ≡ count_of old x
+  pub lists : (x : StreamId) → x ≢ id → IsLive old x → told_list new now x ≡ told_list old before x
+  pub total : total new + size_of old id ≡ total old
+
+-- One stream has become two new ones, and every other one that was live is as before. There is no other.
+pub record Divides (id first second : StreamId) (old new : StreamsState) (before now : Option (List ℕ)) : Type 0 where
+  pub fresh_first : count_of old first ≡ None
+  pub fresh_second : count_of old second ≡ None
+  pub apart : first ≢ second
+  pub live_first : IsLive new first
+  pub live_second : IsLive new second
+  pub sizes : size_of new first + size_of new second ≡ size_of old id
+  pub ended : count_of new id ≡ None
+  pub counts : (x : StreamId) → x ≢ id → x ≢ first → x ≢ second → count_of new x ≡ count_of old x
+  pub lists : (x : StreamId) → x ≢ id → IsLive old x → told_list new now x ≡ told_list old before x
+  pub total : total new ≡ total old
+
+-- There are two new streams without triangles, and every other one is as before.
+pub record MakesTwo (first second : StreamId) (old new : StreamsState) : Type 0 where
+  pub fresh_first : count_of old first ≡ None
+  pub fresh_second : count_of old second ≡ None
+  pub apart : first ≢ second
+  pub count_first : count_of new first ≡ Some 0
+  pub count_second : count_of new second ≡ Some 0
+  pub counts : (x : StreamId) → x ≢ first → x ≢ second → count_of new x ≡ count_of old x
+  pub total : total new ≡ total old
+  pub stands : (bytes : List ℕ) → Stands old bytes → Stands new bytes
+  pub list_first : (bytes : List ℕ) → Stands old bytes → list_of new bytes first ≡ []
+  pub list_second : (bytes : List ℕ) → Stands old bytes → list_of new bytes second ≡ []
+  pub lists : (told : Option (List ℕ)) → ForSome told (Stands old) → (x : StreamId) → x ≢ first → x ≢ second → told_list new told x ≡ told_list old told x
+  pub base : new.base ≡ old.base
+  pub l : new.l ≡ old.l
+
+-- There is one stream more, and every other one is as before.
+pub record Adds (id : StreamId) (old new : StreamsState) (before now : Option (List ℕ)) : Type 0 where
+  pub fresh : count_of old id ≡ None
+  pub live : IsLive new id
+  pub counts : (x : StreamId) → x ≢ id → count_of new x ≡ count_of old x
+  pub lists : (x : StreamId) → x ≢ id → told_list new now x ≡ told_list old before x
+  pub total : total new ≡ total old + size_of new id
+
+-- The stream of a leaf was there, or is new and has no triangles. Every other stream, and that of every other name, is as before.
+pub record Names (leaf : Tet) (id : StreamId) (before after : LeafTable) (old new : StreamsState) : Type 0 where
+  pub live : IsLive new id
+  pub here : get after leaf ≡ Some id
+  pub rest : (name : Tet) → name ≢ leaf → get after name ≡ get before name
+  pub was : (get before leaf ≡ Some id) ⊎ ((get before leaf ≡ None) × (count_of old id ≡ None))
+  pub size : size_of new id ≡ size_of old id
+  pub total : total new ≡ total old
+  pub counts : (x : StreamId) → x ≢ id → count_of new x ≡ count_of old x
+  pub lists : (told : Option (List ℕ)) → ForSome told (Stands old) → (x : StreamId) → x ≢ id → told_list new told x ≡ told_list old told x
+  pub cursors : (told : Option (List ℕ)) → ForSome told (Stands old) → (at : Cursor) → at.stream ≢ id → Follows old told at → Follows new told at
+  pub list : (told : Option (List ℕ)) → ForSome told (Stands old)
+      → told_list new told id ≡ option_map (λ bytes. if is_some (get before leaf) then list_of old bytes id else []) told
+
+-- A triangle was put into the stream of its leaf, and every other stream is as before, that of every other name too.
+pub record Places (leaf : Tet) (id : StreamId) (t : Tri) (leaves leaves' : LeafTable) (old new : StreamsState) (before now : Option (List ℕ)) : Type 0 where
+  pub live : IsLive new id
+  pub here : get leaves' leaf ≡ Some id
+  pub rest : (name : Tet) → name ≢ leaf → get leaves' name ≡ get leaves name
+  pub was : (get leaves leaf ≡ Some id) ⊎ ((get leaves leaf ≡ None) × (count_of old id ≡ None))
+  pub counts : (x : StreamId) → x ≢ id → count_of new x ≡ count_of old x
+  pub lists : (x : StreamId) → x ≢ id → told_list new now x ≡ told_list old before x
+  pub list : ForSome before (λ bytes. told_list new now id ≡ Some ((if is_some (get leaves leaf) then list_of old bytes id else []) ++ t ∷ []))
+  pub cursors : (at : Cursor) → at.stream ≢ id → Follows old before at → Follows new now at
+  pub total : total new ≡ total old + 1
+
+-- While triangles are placed: the names are those of leaves, and there is no stream but theirs and the one that is read.
+pub record IsTidy (L : ℕ) (F : List Point) (whole : StreamId) (leaves : LeafTable) (s : StreamsState) : Type 0 where
+  pub whole_live : IsLive s whole
+  pub names : NamesStreams L F leaves s
+  pub apart : (name : Tet) (id : StreamId) → get leaves name ≡ Some id → id ≢ whole
+  pub only : (x : StreamId) → IsLive s x → (x ≡ whole) ⊎ ((name : Tet) × (get leaves name ≡ Some x))
