@@ -6,7 +6,7 @@ pub mod TableLaw
 pub mod LeafLaw
 pub mod NearLaw
 pub mod Sides
-pub mod DriftLaw
+pub mod LeanLaw
 pub mod SideLaw
 pub mod SideSign
 pub mod Volumes

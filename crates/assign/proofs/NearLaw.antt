@@ -14,7 +14,7 @@ use Rattle.tetra_name.specs.Names.{corners_of, count_of, point_of, tetrahedron_o
 use Rattle.assign.specs.declared.near.Near.{Near}
 use Rattle.assign.specs.Leaf.{centre_dist, nearer, nearest}
 use Rattle.assign.specs.Near.{nearer_of, IsNearest}
-use Rattle.assign.proofs.DriftLaw.{mapped_at}
+use Rattle.assign.proofs.LeanLaw.{mapped_at}
 
 -- the distance by the listed corners
 by_corners : Point → Point → Point → Point → Point → ℕ

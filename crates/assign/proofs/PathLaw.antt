@@ -64,7 +64,7 @@ one_parent (x ∷ xs) P Q S once p q a b =
           | inr g ↦ elim g [ inl f ↦ once.1.0 S later f | inr none ↦ absurd none ]
         ]
 
-two_children : (xs : List Tetrahedron) (P : Tetrahedron) → NoTwice (flat_map children xs) → Member xs P → child_0 P ≢ child_1 P
+pub two_children : (xs : List Tetrahedron) (P : Tetrahedron) → NoTwice (flat_map children xs) → Member xs P → child_0 P ≢ child_1 P
 two_children [] P once m = absurd m
 two_children (x ∷ xs) P once m =
     elim m [

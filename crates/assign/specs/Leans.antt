@@ -15,7 +15,8 @@ unfoldable pub middle_axes : List ℕ
 middle_axes = 1 ∷ 2 ∷ 0 ∷ 2 ∷ 0 ∷ 1 ∷ 2 ∷ 0 ∷ 1 ∷ 0 ∷ 1 ∷ 2 ∷ 2 ∷ 1 ∷ 0 ∷ 1 ∷ 0 ∷ 2 ∷ 1 ∷ 0 ∷ 2 ∷ 0 ∷ 2 ∷ 1 ∷ []
 
 -- the axis of the middle step at a slot of a cube with the centre u in units. The diagonal runs forwards where a coordinate's rest by four is 1.
--- Members of a cube are in the order of their steps: forwards along x, y and z before backwards along z, y and x. So it doesn't matter which way the diagonal runs along z
+-- Members of a cube are in the order of their steps: forwards along x, y and z before backwards along z, y and x. So it doesn't matter which
+-- way the diagonal runs along z
 unfoldable pub middle_axis : Point → ℕ → ℕ
 middle_axis u slot = slice_index_or middle_axes (6 * (u.x % 4 / 2 + 2 * (u.y % 4 / 2)) + slot) 0
 

@@ -21,6 +21,7 @@ tet_cmp s t = slice_cmp nat_cmp (numbers_of s) (numbers_of t)
 abbrev pub LeafTable : Type 0
 LeafTable = FinMap tet_cmp StreamId
 
+-- names, streams and tables as numbers and lists, by which proofs tell them apart
 abbrev pub tet_code : Coded Tet
 tet_code =
     code_by (ℕ × (ℕ × (ℕ × ℕ))) (coded× coded_ℕ (coded× coded_ℕ (coded× coded_ℕ coded_ℕ)))
@@ -32,6 +33,7 @@ stream_code = code_by ℕ coded_ℕ (λ s. s.place) (λ n. record { place = n })
 abbrev pub table_code : Coded LeafTable
 table_code = code tet_code stream_code
 
+-- the name that a key of the table stands for
 abbrev pub name_of : Key → Tet
 name_of k = record { centre = record { x = k.x; y = k.y; z = k.z }; slot = k.slot }
 

@@ -6,6 +6,7 @@ use Rattle.tpz_base.specs.Tetrahedra.{Tetrahedron}
 use Rattle.assign.specs.declared.near.Near.{Near}
 use Rattle.assign.specs.Leaf.{centre_dist, nearer}
 
+-- the second where its distance is strictly less, and else the first
 abbrev pub nearer_of : Near → Near → Near
 nearer_of a b = if nat_lt b.distance a.distance then b else a
 

@@ -30,6 +30,7 @@ is_beyond t T =
 unfoldable pub side_of : Tri → Tetrahedron → ℕ
 side_of t T = if is_beyond t T then 1 else 0
 
+-- that child
 unfoldable pub entered : Tri → Tetrahedron → Tetrahedron
 entered t T = if is_beyond t T then child_1 T else child_0 T
 

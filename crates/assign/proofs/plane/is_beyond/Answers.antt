@@ -2,7 +2,7 @@ use Rattle.std.proofs.Common.{w64, refl, ap, ◌∙◌}
 use Rattle.std.specs.Prelude.{pos, int_lt}
 use Rattle.std.proofs.lemmas.Int.{to_z-of_z}
 use Rattle.tetra_name.proofs.PlaceLaw.{centre_of_name}
-use Rattle.assign.proofs.DriftLaw.{by_three, by_fewer, few_slots, read_back, outer_same, total_same}
+use Rattle.assign.proofs.LeanLaw.{by_three, by_fewer, few_slots, read_back, outer_same, total_same}
 use Rattle.assign.proofs.plane.is_beyond.Goals as goal
 
 pub level-depth-requires-clause-centre : goal.level-depth-requires-clause-centre

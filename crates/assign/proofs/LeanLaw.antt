@@ -253,10 +253,10 @@ module _ (L : ℕ) (t : Tet) (Q : Placed L t) where
 
 module _ (L : ℕ) (t : Tet) (tri : Tri) (Q : Placed L t) where
   -- three steps
-  cube_drift : (n power : ℕ) → n ≡ level_of L (point_of t.centre) → power ≡ L - n / 3 → n % 3 ≡ 0 → (r : ℤ)
+  cube_sign : (n power : ℕ) → n ≡ level_of L (point_of t.centre) → power ≡ L - n / 3 → n % 3 ≡ 0 → (r : ℤ)
       → r ≡ outer_leans (middle_axis (over power (point_of t.centre)) t.slot) (corner_sum tri) (point_of t.centre) (over power (point_of t.centre))
       → IfSome (tetrahedron_of L t) (λ T. int_lt (pos 0) r ≡ is_beyond tri T)
-  cube_drift n power e f m r is =
+  cube_sign n power e f m r is =
       let K = kind L t Q n power e f in
       let o : long_axes Q.u ≡ 3 = omega (arith, K.axes, m) in
       let k = picked L t Q.j Q.N Q.u Q.q Q.place in
@@ -275,10 +275,10 @@ module _ (L : ℕ) (t : Tet) (tri : Tri) (Q : Placed L t) where
       (ap (int_lt (pos 0)) (sum ∙ ap₂ (λ x y. x +ℤ y) (long_lean A.p (2 ^ Q.j) C.x C.b C.x_way) (long_lean A.r (2 ^ Q.j) C.z C.d C.z_way)) ∙ sym beyond)
 
   -- two steps
-  face_drift : (n power : ℕ) → n ≡ level_of L (point_of t.centre) → power ≡ L - n / 3 → n % 3 ≡ 1 → (r : ℤ)
+  face_sign : (n power : ℕ) → n ≡ level_of L (point_of t.centre) → power ≡ L - n / 3 → n % 3 ≡ 1 → (r : ℤ)
       → r ≡ leans (corner_sum tri) (point_of t.centre) (over power (point_of t.centre))
       → IfSome (tetrahedron_of L t) (λ T. int_lt (pos 0) r ≡ is_beyond tri T)
-  face_drift n power e f m r is =
+  face_sign n power e f m r is =
       let K = kind L t Q n power e f in
       let o : long_axes Q.u ≡ 2 = omega (arith, K.axes, m) in
       let k = picked L t Q.j Q.N Q.u Q.q Q.place in
@@ -295,10 +295,10 @@ module _ (L : ℕ) (t : Tet) (tri : Tri) (Q : Placed L t) where
       (ap (int_lt (pos 0)) (sum ∙ two_leans _ _ _ _ _ (long_lean A.p (2 ^ Q.j) C.x C.b C.x_way) (long_lean A.q (2 ^ Q.j) C.y C.c C.y_way) (flat_lean A.r (2 ^ Q.j * C.z) C.z C.even)) ∙ sym beyond)
 
   -- one step
-  edge_drift : (n power : ℕ) → n ≡ level_of L (point_of t.centre) → power ≡ L - n / 3 → n % 3 ≡ 2 → (r : ℤ)
+  edge_sign : (n power : ℕ) → n ≡ level_of L (point_of t.centre) → power ≡ L - n / 3 → n % 3 ≡ 2 → (r : ℤ)
       → r ≡ leans (corner_sum tri) (point_of t.centre) (over power (point_of t.centre))
       → IfSome (tetrahedron_of L t) (λ T. int_lt (pos 0) r ≡ is_beyond tri T)
-  edge_drift n power e f m r is =
+  edge_sign n power e f m r is =
       let K = kind L t Q n power e f in
       let o : long_axes Q.u ≡ 1 = omega (arith, K.axes, m) in
       let k = picked L t Q.j Q.N Q.u Q.q Q.place in
@@ -314,14 +314,14 @@ module _ (L : ℕ) (t : Tet) (tri : Tri) (Q : Placed L t) where
       of_name L t Q (λ T. int_lt (pos 0) r ≡ is_beyond tri T)
       (ap (int_lt (pos 0)) (sum ∙ one_lean _ _ _ _ (long_lean A.p (2 ^ Q.j) C.x C.b C.x_way) (flat_lean A.q (2 ^ Q.j * C.y) C.y C.y_even) (flat_lean A.r (2 ^ Q.j * C.z) C.z C.z_even)) ∙ sym beyond)
 
-  flat_drift : (n power : ℕ) → n ≡ level_of L (point_of t.centre) → power ≡ L - n / 3 → (n % 3 ≡ 0 → ⊥) → (r : ℤ)
+  other_sign : (n power : ℕ) → n ≡ level_of L (point_of t.centre) → power ≡ L - n / 3 → (n % 3 ≡ 0 → ⊥) → (r : ℤ)
       → r ≡ leans (corner_sum tri) (point_of t.centre) (over power (point_of t.centre))
       → IfSome (tetrahedron_of L t) (λ T. int_lt (pos 0) r ≡ is_beyond tri T)
-  flat_drift n power e f m r is = cases (n % 3) refl where
+  other_sign n power e f m r is = cases (n % 3) refl where
     cases : (i : ℕ) → n % 3 ≡ i → IfSome (tetrahedron_of L t) (λ T. int_lt (pos 0) r ≡ is_beyond tri T)
     cases zero k = absurd (m k)
-    cases (suc zero) k = face_drift n power e f k r is
-    cases (suc (suc zero)) k = edge_drift n power e f k r is
+    cases (suc zero) k = face_sign n power e f k r is
+    cases (suc (suc zero)) k = edge_sign n power e f k r is
     cases (suc (suc (suc i))) k = absurd (omega (arith, k))
 
 -- a name of a cube has one of six slots
@@ -340,7 +340,7 @@ unfolding outer_leans
 by_three L t tri h n power e f m u u_is s s_is axis axis_is x y z r ex ey ez is b b_is =
     let k : r ≡ outer_leans axis s (point_of t.centre) (point_of u) = rw (← ex, ← ey, ← ez) is in
     subst (λ v. IfSome (tetrahedron_of L t) (λ T. v ≡ is_beyond tri T)) (sym b_is)
-    (cube_drift L t tri (placed L t h) n power e f m r (k ∙ outer_leans_cong (axis_is ∙ ap (λ v. middle_axis v t.slot) u_is) s_is refl u_is))
+    (cube_sign L t tri (placed L t h) n power e f m r (k ∙ outer_leans_cong (axis_is ∙ ap (λ v. middle_axis v t.slot) u_is) s_is refl u_is))
 
 pub by_fewer : (L : ℕ) (t : Tet) (tri : Tri) → IsName L t → (n power : ℕ) → n ≡ level_of L (point_of t.centre) → power ≡ L - n / 3 → (n % 3 ≡ 0 → ⊥)
     → (u : Half) → point_of u ≡ over power (point_of t.centre) → (s : Point) → s ≡ corner_sum tri → (x y z r : ℤ)
@@ -349,7 +349,7 @@ pub by_fewer : (L : ℕ) (t : Tet) (tri : Tri) → IsName L t → (n power : ℕ
 unfolding leans
 by_fewer L t tri h n power e f m u u_is s s_is x y z r ex ey ez is b b_is =
     let k : r ≡ leans s (point_of t.centre) (point_of u) = is ∙ ap₂ (λ u v. u +ℤ v) ex (ap₂ (λ u v. u +ℤ v) ey ez) in
-    subst (λ v. IfSome (tetrahedron_of L t) (λ T. v ≡ is_beyond tri T)) (sym b_is) (flat_drift L t tri (placed L t h) n power e f m r (k ∙ leans_cong s_is refl u_is))
+    subst (λ v. IfSome (tetrahedron_of L t) (λ T. v ≡ is_beyond tri T)) (sym b_is) (other_sign L t tri (placed L t h) n power e f m r (k ∙ leans_cong s_is refl u_is))
 
 -- a number that went through its bits
 pub read_back : (z : ℤ) → unsigned_abs z ≤ 2 ^ 35 → to_z w64 (of_z w64 z) ≡ z
