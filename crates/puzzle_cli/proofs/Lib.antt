@@ -8,5 +8,6 @@ pub mod ReadLemmas
 pub mod WorkedWords
 pub mod Parses
 pub mod Givens
+pub mod Spellings
 pub mod OptionWalks
 pub mod OptionTables
