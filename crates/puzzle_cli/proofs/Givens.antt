@@ -5,7 +5,7 @@ use Rattle.std.specs.Str.{bytes_eq}
 use Rattle.std.proofs.lemmas.Bool.Decides.{nat_tests}
 use Rattle.clap.specs.Walk.{Text}
 use Rattle.clap.specs.Lexer.{long_of, name_and_value}
-use Rattle.clap.proofs.CutLemmas.{Lacks, before_first-at, after_first-at}
+use Rattle.clap.proofs.CutLemmas.{Lacks, list_any-Lacks, before_first-at, after_first-at}
 use Rattle.clap.proofs.LexerLemmas.{name_and_value-at, name_and_value-without}
 use Rattle.puzzle_cli.specs.Words.{and_then, given_in, is_equals, parts_of}
 
@@ -35,8 +35,18 @@ lacks_equals (x ∷ xs) e = go (x == 61) refl e (lacks_equals xs)
     go true is e rest = absurd (true≢false e)
     go false is e rest = Lacks-cons 61 x xs is (rest e)
 
+pub unequal : (word : Text) → Lacks 61 word → list_any is_equals word ≡ false
+unequal word lacks = list_any-Lacks 61 word lacks
+
 pub parts_at : (n v : Text) → Lacks 61 n → parts_of (n ++ 61 ∷ v) ≡ (n, v)
 parts_at n v h = ap₂ (λ (a b : Text). (a, b)) (before_first-at 61 n v h) (after_first-at 61 n v h)
+
+pub by_equals : {P : Type 0} (word : Text) → (list_any is_equals word ≡ true → P) → (list_any is_equals word ≡ false → P) → P
+by_equals {P} word some none = go (list_any is_equals word) refl
+  where
+    go : (b : Bool) → list_any is_equals word ≡ b → P
+    go true e = some e
+    go false e = none e
 
 -- ---- options and those behind them
 

@@ -12,5 +12,6 @@ pub mod Completing
 pub mod WorkedWords
 pub mod Parses
 pub mod Givens
+pub mod Spellings
 pub mod OptionWalks
 pub mod OptionTables

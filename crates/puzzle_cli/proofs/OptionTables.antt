@@ -15,12 +15,13 @@ use Rattle.clap.specs.Faults.{fault_of}
 use Rattle.clap.specs.Simple.{names_of}
 use Rattle.clap.specs.Walk.{Row, Text, first_of, nothing_held, rows_after, settled, walk}
 use Rattle.clap.specs.declared.parser.matches.ArgMatches.{ArgMatches}
-use Rattle.clap.proofs.WalkLemmas.{first_value-rows, list_any-map}
+use Rattle.clap.proofs.SimpleLemmas.{is_false}
+use Rattle.clap.proofs.WalkLemmas.{both, first_value-rows, list_any-map}
 use Rattle.puzzle_cli.specs.Words.{Given, Setting, asked, commands, finest, job_with, are_different, are_options, flag, given_in, is_met, is_named, is_of, is_value, text_for}
 use Rattle.puzzle_cli.specs.declared.options.Setting.{Setting as StoredSetting}
 use Rattle.puzzle_cli.specs.Parses.{TellsOptions, option_rule, options_app, setting_of}
 use Rattle.puzzle_cli.proofs.Parses.{Use, built_is, fault_is, finished_is, is_known, is_seen, ready, row, simple_options}
-use Rattle.puzzle_cli.proofs.OptionWalks.{are_known, are_new, are_plain, both, dashed, is_plain, is_word, not_false, options_pass, what_passes}
+use Rattle.puzzle_cli.proofs.OptionWalks.{are_known, are_new, are_plain, dashed, is_plain, is_word, options_pass, what_passes}
 
 abbrev pub names : List Setting → List Text
 names = map (λ s. s.name)
@@ -121,14 +122,14 @@ unseen_more us u (v ∷ more) e fresh =
     let parts = both (not (is_seen v.0 us)) _ e in
     let apart = neither (bytes_eq v.0 u.0) _ fresh in
     let unseen : is_seen v.0 (us ++ u ∷ []) ≡ false =
-    seen_push v.0 us u ∙ (λ i. not_false _ parts.0 i || ((eq_sym u.0 v.0 ∙ apart.0) i || false)) in
+    seen_push v.0 us u ∙ (λ i. is_false _ parts.0 i || ((eq_sym u.0 v.0 ∙ apart.0) i || false)) in
     ap₂ (λ a b. not a && b) unseen (unseen_more us u more parts.1 apart.1)
 
 unseen_less : (us : List Use) (u : Use) (more : List Use) → all_unseen (us ++ u ∷ []) more ≡ true → (all_unseen us more ≡ true) × (is_seen u.0 more ≡ false)
 unseen_less us u [] e = (refl, refl)
 unseen_less us u (v ∷ more) e =
     let parts = both (not (is_seen v.0 (us ++ u ∷ []))) _ e in
-    let apart = neither (is_seen v.0 us) _ (sym (seen_push v.0 us u) ∙ not_false _ parts.0) in
+    let apart = neither (is_seen v.0 us) _ (sym (seen_push v.0 us u) ∙ is_false _ parts.0) in
     let rest = unseen_less us u more parts.1 in (
       ap₂ (λ a b. not a && b) apart.0 rest.0,
       ap₂ (λ a b. a || b) (eq_sym v.0 u.0 ∙ (neither (bytes_eq u.0 v.0) _ apart.1).0) rest.1,
@@ -139,7 +140,7 @@ new_from us [] e different = refl
 new_from us (u ∷ more) e different =
     let parts = both (not (is_seen u.0 us)) _ e in
     let apart = both _ _ different in
-    ap₂ (λ a b. a && b) parts.0 (new_from (us ++ u ∷ []) more (unseen_more us u more parts.1 (sym (seen_dashed u.0 more) ∙ not_false _ apart.0)) apart.1)
+    ap₂ (λ a b. a && b) parts.0 (new_from (us ++ u ∷ []) more (unseen_more us u more parts.1 (sym (seen_dashed u.0 more) ∙ is_false _ apart.0)) apart.1)
 
 different_from : (us more : List Use) → are_new us more ≡ true → (all_unseen us more ≡ true) × (are_different (map dashed more) ≡ true)
 different_from us [] e = (refl, refl)
@@ -195,7 +196,7 @@ values_plain settings [] known different all = refl
 values_plain settings (u ∷ us) known different all =
     let parts = both (is_known (names settings) u.0) _ known in
     let apart = both _ _ different in
-    let unseen = sym (seen_dashed u.0 us) ∙ not_false _ apart.0 in
+    let unseen = sym (seen_dashed u.0 us) ∙ is_false _ apart.0 in
     let one = setting_named settings u.0 (fits (map dashed (u ∷ us))) parts.0 all in
     ap₂ (λ a b. a && b) (value_plain one.0 u.1 (here one.0 one.1 one.2))
     (values_plain settings us parts.1 apart.1 (all_weaker (fits (map dashed (u ∷ us))) (fits (map dashed us)) (later unseen) settings all))

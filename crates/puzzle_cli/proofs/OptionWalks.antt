@@ -8,9 +8,11 @@ use Rattle.clap.specs.Lexer.{long_of, short_of}
 use Rattle.clap.specs.Faults.{turn_fault, walk_fault}
 use Rattle.clap.specs.Kinds.{Kinds, or_else}
 use Rattle.clap.proofs.CutLemmas.{Lacks}
+use Rattle.clap.proofs.SimpleLemmas.{is_false}
+use Rattle.clap.proofs.WalkLemmas.{both}
 use Rattle.clap.proofs.LexerLemmas.{name_and_value-at, name_and_value-without}
 use Rattle.puzzle_cli.specs.Words.{Given, is_named, and_then, given_in, is_equals, parts_of}
-use Rattle.puzzle_cli.proofs.Givens.{attached, bare, other, cut_at, form_of, given_alone, given_joined, given_paired, lacks_equals, parts_at}
+use Rattle.puzzle_cli.proofs.Givens.{attached, bare, other, by_equals, cut_at, form_of, given_alone, given_joined, given_paired, lacks_equals, parts_at}
 use Rattle.puzzle_cli.proofs.Parses.{IsKnown, Use, attached_next, attached_turn, fails_not, fault_from, flag_next, flag_turn, held, is_known, is_new, is_seen, joined, next_word, option_fails, or_second, passes_on, ready, ready_shape, settled_is, settles, stands, stray_fails, twice, unknown_fails, value_passes, value_turn, waits_for, waits_in_vain}
 
 -- ---- options without their dashes
@@ -28,14 +30,6 @@ are_known options = list_all (λ u. is_known options u.0)
 
 abbrev pub is_word : Text → Bool
 is_word word = not (bytes_eq word (45 ∷ 45 ∷ []))
-
-pub not_false : (b : Bool) → not b ≡ true → b ≡ false
-not_false true e = absurd (true≢false (sym e))
-not_false false e = refl
-
-pub both : (a b : Bool) → (a && b) ≡ true → (a ≡ true) × (b ≡ true)
-both true b e = (refl, e)
-both false b e = absurd (true≢false (sym e))
 
 new_by : (b : Bool) (k : Kinds) → or_else (cond b [] twice) k ≡ [] → b ≡ true
 new_by true k e = refl
@@ -82,9 +76,9 @@ module _ (name : Text) (options : List Text) where
       → ((us : List Use) (p : Option Use) → IsKnown options p → fault_from shape (stands us p) words ≡ [] → Reads options us p words (end_of (stands us p) words))
       → fault_from shape (stands us p) (word ∷ words) ≡ [] → (b : Bool) → is_known options n ≡ b → Reads options us p (word ∷ words) (end_of (stands us p) (word ∷ words))
   reads_attached us p word n v words known word_is long equals parts rest e false own =
-      absurd (unknown_fails name options us p word n (Some v) (not_false _ word_is) long own (passes_on name options (stands us p) word words e).0)
+      absurd (unknown_fails name options us p word n (Some v) (is_false _ word_is) long own (passes_on name options (stands us p) word words e).0)
   reads_attached us p word n v words known word_is long equals parts rest e true own =
-      let dashes = not_false _ word_is in
+      let dashes = is_false _ word_is in
       let on = passes_on name options (stands us p) word words e in
       let turn = sym (attached_turn name options us p word n v known dashes long own) ∙ on.0 in
       let new = new_by (is_new us p) _ turn in
@@ -106,9 +100,9 @@ module _ (name : Text) (options : List Text) where
       → ((us : List Use) (n : Text) → is_known options n ≡ true → fault_from shape (waits_for us n) words ≡ [] → ReadsValue name options us n words)
       → fault_from shape (stands us p) (word ∷ words) ≡ [] → (b : Bool) → is_known options n ≡ b → Reads options us p (word ∷ words) (end_of (stands us p) (word ∷ words))
   reads_bare us p word n words known word_is long equals is rest e false own =
-      absurd (unknown_fails name options us p word n None (not_false _ word_is) long own (passes_on name options (stands us p) word words e).0)
+      absurd (unknown_fails name options us p word n None (is_false _ word_is) long own (passes_on name options (stands us p) word words e).0)
   reads_bare us p word n words known word_is long equals is rest e true own =
-      let dashes = not_false _ word_is in
+      let dashes = is_false _ word_is in
       let on = passes_on name options (stands us p) word words e in
       let new = unless_new (is_new us p) (sym (flag_turn name options us p word n known dashes long own) ∙ on.0) in
       let next = flag_next name options us p word n known dashes long own new in
@@ -129,10 +123,10 @@ module _ (name : Text) (options : List Text) where
       → ((us : List Use) (p : Option Use) → IsKnown options p → fault_from shape (stands us p) words ≡ [] → Reads options us p words (end_of (stands us p) words))
       → ((us : List Use) (n : Text) → is_known options n ≡ true → fault_from shape (waits_for us n) words ≡ [] → ReadsValue name options us n words)
       → fault_from shape (stands us p) (word ∷ words) ≡ [] → Reads options us p (word ∷ words) (end_of (stands us p) (word ∷ words))
-  reads_word us p word words known word_is rest value e = elim (form_of word (not_false _ word_is)) [
+  reads_word us p word words known word_is rest value e = elim (form_of word (is_false _ word_is)) [
     | attached n v long equals parts ↦ reads_attached us p word n v words known word_is long equals parts rest e (is_known options n) refl
     | bare n long equals is ↦ reads_bare us p word n words known word_is long equals is value e (is_known options n) refl
-    | other long ↦ absurd (stray_fails name options us p word (not_false _ word_is) long (passes_on name options (stands us p) word words e).0)
+    | other long ↦ absurd (stray_fails name options us p word (is_false _ word_is) long (passes_on name options (stands us p) word words e).0)
   ]
 
   reads_value : (us : List Use) (n v : Text) (words : List Text) → is_known options n ≡ true → is_word v ≡ true
@@ -141,10 +135,10 @@ module _ (name : Text) (options : List Text) where
   reads_value us n v words own word_is rest e = go (long_of v) refl
     where
       go : (o : Option (Text × Option Text)) → long_of v ≡ o → ReadsValue name options us n (v ∷ words)
-      go (Some q) long = absurd (option_fails name options us n v q.0 q.1 own (not_false _ word_is) long (passes_on name options (waits_for us n) v words e).0)
+      go (Some q) long = absurd (option_fails name options us n v q.0 q.1 own (is_false _ word_is) long (passes_on name options (waits_for us n) v words e).0)
       go None long =
           let on = passes_on name options (waits_for us n) v words e in
-          let next = value_turn name options us n v own (not_false _ word_is) long on.0 in
+          let next = value_turn name options us n v own (is_false _ word_is) long on.0 in
           let tail = rest us (Some (n, v)) own (ap (λ w. fault_from shape w words) (sym next) ∙ on.1) in
           record {
             value = v;
@@ -194,7 +188,7 @@ are_plain = list_all (λ u. is_plain u.1)
 
 plain_word : (v : Text) → is_plain v ≡ true → (is_word v ≡ true) × (long_of v ≡ None) × (short_of v ≡ None)
 plain_word [] e = (refl, refl, refl)
-plain_word (c ∷ cs) e = let no : (c == 45) ≡ false = not_false _ e in rw no (refl, refl, refl)
+plain_word (c ∷ cs) e = let no : (c == 45) ≡ false = is_false _ e in rw no (refl, refl, refl)
 
 unnamed : (options : List Text) → list_all is_named options ≡ true → is_known options [] ≡ true → ⊥
 unnamed [] named e = true≢false (sym e)
@@ -252,9 +246,9 @@ module _ (name : Text) (options : List Text) (named : list_all is_named options 
       → Passes (joined us p ++ u ∷ []) None words → Passes us p (word ∷ words)
   passes_attached us p word words u more known equals is new own fresh rest =
       let form = attached_form word u equals is in
-      let dashes = not_false _ form.0 in
+      let dashes = is_false _ form.0 in
       let known_here = (both (is_known options u.0) _ own).0 in
-      let unseen = not_false _ (both (not (is_seen u.0 (joined us p))) _ fresh).0 in
+      let unseen = is_false _ (both (not (is_seen u.0 (joined us p))) _ fresh).0 in
       let turn = attached_turn name options us p word u.0 u.1 known dashes form.1 known_here
       ∙ ap₂ (λ a b. or_else (cond a [] twice) (cond b twice [])) new unseen in (
         goes_on (stands us p) _ word words turn (attached_next name options us p word u.0 u.1 known dashes form.1 known_here new unseen) rest.0,
@@ -267,9 +261,9 @@ module _ (name : Text) (options : List Text) (named : list_all is_named options 
   passes_bare us p n v words more known equals new own plain rest =
       let known_here = (both (is_known options n) _ own).0 in
       let form = bare_form n equals (λ e. unnamed options named (ap (is_known options) (sym e) ∙ known_here)) in
-      let dashes = not_false _ form.0 in
+      let dashes = is_false _ form.0 in
       let value = plain_word v plain in
-      let value_dashes = not_false _ value.0 in
+      let value_dashes = is_false _ value.0 in
       let turn = flag_turn name options us p (45 ∷ 45 ∷ n) n known dashes form.1 known_here ∙ ap (λ b. cond b [] twice) new in
       let passes = value_passes name options (joined us p) n v known_here value_dashes value.1 value.2 in
       let tail = goes_on (waits_for (joined us p) n) _ v words passes (value_turn name options (joined us p) n v known_here value_dashes value.1 passes) rest.0 in (
@@ -305,13 +299,6 @@ module _ (name : Text) (options : List Text) (named : list_all is_named options 
       let done = passes_bare us p f.use_of.0 f.use_of.1 words f.rest known (ap (list_any is_equals) (sym word_is) ∙ equals) new here.0 plain.0
       (rest (joined us p) f.use_of f.rest known_here f.others_are fresh.0 ((both (is_known options f.use_of.0) _ here.0).1, fresh.1, plain.1)) in
       subst (λ (g : Given). Passes us p (g.0 ∷ g.1 ∷ words)) (sym f.is) done
-
-  by_equals : {P : Type 0} (word : Text) → (list_any is_equals word ≡ true → P) → (list_any is_equals word ≡ false → P) → P
-  by_equals {P} word some none = go (list_any is_equals word) refl
-    where
-      go : (b : Bool) → list_any is_equals word ≡ b → P
-      go true e = some e
-      go false e = none e
 
   -- words that spell options of these names, each once, and values without a dash, pass
   pub options_pass : (us : List Use) (p : Option Use) (words : List Text) (more : List Use) → IsKnown options p → given_in words ≡ Some (map dashed more)

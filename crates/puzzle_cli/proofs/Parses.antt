@@ -9,6 +9,7 @@ use Rattle.clap.specs.Walk.{Held, Row, is_early_multiple, Rule, Step, Text, Walk
 use Rattle.clap.specs.Walk.{finished, nothing_held, walk, walk_from, with_default}
 use Rattle.clap.specs.Faults.{built_fault, bundle_fault, flags_fault, long_fault, step_fault, react_fault, turn_fault, use_fault, fault_of, has_free_rules, is_simple_and_free, walk_fault, settle_fault, default_fault, defaults_fault}
 use Rattle.clap.proofs.FaultLemmas.{leaf_fault}
+use Rattle.clap.proofs.SimpleLemmas.{is_false}
 use Rattle.std.specs.Prelude.{count_by, slice_get}
 use Rattle.std.specs.Option.{option_map_or}
 use Rattle.clap.specs.Lexer.{long_of, short_of}
@@ -228,15 +229,11 @@ pub settles : (options : List Text) (us : List Use) (p : Option Use) → IsKnown
 settles options us None known = refl
 settles options us (Some u) known = rw ((by_id u.0 options).0 known) (use_of u.0 u.1 us ∙ cond_not (is_seen u.0 us))
 
-not_true : (b : Bool) → not b ≡ true → b ≡ false
-not_true true e = absurd (true≢false (sym e))
-not_true false e = refl
-
 pub settled_is : (options : List Text) (us : List Use) (p : Option Use) → IsKnown options p → is_new us p ≡ true
     → settled (map ready options) (held us p) ≡ held (joined us p) None
 settled_is options us None known new = refl
 settled_is options us (Some u) known new =
-    rw ((by_id u.0 options).0 known) (ap (λ rs. record { rows = rs; pending = None; skip = 0 }) (new_row u.0 u.1 us (not_true _ new)))
+    rw ((by_id u.0 options).0 known) (ap (λ rs. record { rows = rs; pending = None; skip = 0 }) (new_row u.0 u.1 us (is_false _ new)))
 
 -- ---- the steps of the walk
 

@@ -1,5 +1,5 @@
 -- The words of the command line: a command, and a list of its options, each with a number.
-use Rattle.std.specs.Prelude.{ℕ, ◌==◌, Bool, true, false, not, ◌&&◌, nat_le, if◌then◌else◌, List, [], ◌∷◌, codes, find, Option, Some, None, option_map, option_and_then}
+use Rattle.std.specs.Prelude.{◌≡◌, ℕ, ◌==◌, Bool, true, false, not, ◌&&◌, nat_le, if◌then◌else◌, List, [], ◌∷◌, ◌++◌, map, flat_map, codes, find, Option, Some, None, option_map, option_and_then}
 use Rattle.std.specs.List.{list_all, list_any, before_first, after_first}
 use Rattle.std.specs.Option.{option_map_or}
 use Rattle.std.specs.Str.{bytes_eq}
@@ -31,6 +31,28 @@ given_in [] = Some []
 given_in (word ∷ []) = if list_any is_equals word then Some (parts_of word ∷ []) else None
 given_in (word ∷ next ∷ words) =
     if list_any is_equals word then and_then (parts_of word) (given_in (next ∷ words)) else and_then (word, next) (given_in words)
+
+-- ---- how options are spelled
+
+-- an option as it is written, in one word or in two; no `=` is in its name
+pub record Spelling : Type 0 where
+  pub name : Bytes
+  pub value : Bytes
+  pub is_one_word : Bool
+
+abbrev pub is_spelling : Spelling → Bool
+is_spelling s = not (list_any is_equals s.name)
+
+-- `NAME=VALUE`, or `NAME` and `VALUE`
+abbrev pub words_of : Spelling → List Bytes
+words_of s = if s.is_one_word then (s.name ++ 61 ∷ s.value) ∷ [] else s.name ∷ s.value ∷ []
+
+abbrev pub given_by : Spelling → Given
+given_by s = (s.name, s.value)
+
+-- the words are spellings of these options, one after the other
+abbrev pub Spell : List Given → List Bytes → Type 0
+Spell gs words = (ss : List Spelling) × (list_all is_spelling ss ≡ true) × (words ≡ flat_map words_of ss) × (gs ≡ map given_by ss)
 
 -- ---- the options that a command has
 

@@ -1,7 +1,8 @@
 // The jobs that the words of the command line ask for.
-ghost use Rattle.std.specs.Prelude.{◌≡◌, ◌≤◌, ◌↔◌, IsTrue, Err, None, Some, IfOk, IfSome, map, string_bytes};
+ghost use Rattle.std.specs.Prelude.{◌≡◌, ◌≤◌, ◌↔◌, IsTrue, Err, None, Some, List, IfOk, IfSome, map, string_bytes};
+ghost use Rattle.tpz_base.specs.Texts.{Bytes};
 ghost use Rattle.puzzle_cli.specs.declared.jobs.WordsFault.TheVariants.{Usage, Memory};
-ghost use Rattle.puzzle_cli.specs.Words.{asked, finest, job_with};
+ghost use Rattle.puzzle_cli.specs.Words.{Given, Spell, asked, finest, given_in, job_with};
 
 use crate::options::{Setting, option_number, take_options};
 use std::alloc::{AllocError, Global};
@@ -55,6 +56,7 @@ const CAP: Setting = Setting {
 pub fn read_words(alloc: Global, words: &[String]) -> Result<Job, WordsFault>
     ensures ok { IfOk result (λ job. asked (map string_bytes words.now) ≡ Some job) }
     ensures usage { result ≡ Err Usage → asked (map string_bytes words.now) ≡ None }
+    ensures spelled { (words : List Bytes) (gs : List Given) → given_in words ≡ Some gs ↔ Spell gs words }
 {
     match words {
         [command, options @ ..] if is_named(command, "finest") => read_finest(alloc, options),
@@ -73,7 +75,7 @@ fn read_finest(alloc: Global, words: &[String]) -> Result<Job, WordsFault>
     ensures usage { result ≡ Err Usage → job_with (map string_bytes words.now) finest ≡ None }
 {
     let settings = [DIGITS, CAP];
-    let matches = take_options(alloc, "finest", &settings, words)?;
+    let matches = take_options(alloc, &settings, words)?;
     let digits = option_number(&matches, &DIGITS)?;
     let cap = option_number(&matches, &CAP)?;
     Ok(Job::Finest {

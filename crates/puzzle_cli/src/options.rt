@@ -24,10 +24,9 @@ pub struct Setting {
     pub is_required: bool,
 }
 
-/// The options that the words behind a command spell. `name` is the command.
+/// The options that the words behind a command spell, by these settings of the command.
 pub fn take_options<'a>(
     alloc: Global,
-    name: &'a str,
     settings: &[Setting],
     words: &'a [String],
 ) -> Result<ArgMatches<'a>, WordsFault>
@@ -39,7 +38,7 @@ pub fn take_options<'a>(
     if has_dashes_alone(words) {
         return Err(WordsFault::Usage);
     }
-    let command = command_of(alloc, name, settings)?;
+    let command = command_of(alloc, settings)?;
     match command.try_get_matches_from(words) {
         Ok(matches) => Ok(matches),
         Err(error) => Err(fault_of(error.kind())),
@@ -53,15 +52,11 @@ fn has_dashes_alone(words: &[String]) -> bool
     words.iter().any(|word| word.as_str() == "--")
 }
 
-// The command with these options alone.
-fn command_of<'a>(
-    alloc: Global,
-    name: &'a str,
-    settings: &[Setting],
-) -> Result<Command<'a>, AllocError>
-    ensures { IfOk result (λ c. app_of c ≡ options_app name.entry.now (map (λ s. s.name.now) settings.now)) }
+// A command with these options alone. Its name would stand in messages of `clap`, and none is shown.
+fn command_of<'a>(alloc: Global, settings: &[Setting]) -> Result<Command<'a>, AllocError>
+    ensures { IfOk result (λ c. app_of c ≡ options_app (codes "tpz") (map (λ s. s.name.now) settings.now)) }
 {
-    let mut command = Command::new(alloc, name)
+    let mut command = Command::new(alloc, "tpz")
         .no_binary_name(true)
         .disable_help_flag(true)
         .disable_version_flag(true);

@@ -1,4 +1,4 @@
-use Rattle.std.proofs.Common.{rules, ◌≡◌}
+use Rattle.std.proofs.Common.{rules, codes, ◌≡◌}
 use Rattle.clap.specs.Words.{rule_of}
 use Rattle.puzzle_cli.specs.Parses.{option_rule}
 use Rattle.puzzle_cli.proofs.OptionTables.{option_added}
@@ -8,5 +8,5 @@ pub loop-setting-preserved : goal.loop-setting-preserved
 loop-setting-preserved c =
     let id = c.new-in-loop-setting.ensures.id in
     let rule : rule_of c.action-arg.result ≡ option_rule c.new-in-loop-setting.result.id.now = search rules in
-    option_added c.args.name.now c.args.settings.now c.loop-setting.setting-index _ _ _ _ _ c.loop-setting-test.true id c.loop-setting.invariant
+    option_added (codes "tpz") c.args.settings.now c.loop-setting.setting-index _ _ _ _ _ c.loop-setting-test.true id c.loop-setting.invariant
     (c.in_ok-command.ensures.shape (search rules)) rule
