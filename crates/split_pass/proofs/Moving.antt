@@ -1,11 +1,11 @@
 -- Streams that are made, filled and ended, one step after another.
-use Rattle.std.proofs.Common.{◌≡◌, ◌≢◌, ℕ, ◌+◌, ◌++◌, ◌∷◌, ◌≤◌, [], List, Option, Some, None, refl, sym, ◌∙◌, ap, subst, inl, inr, ◌⊎◌, arith}
-use Rattle.std.specs.Prelude.{IsSome}
+use Rattle.std.proofs.Common.{◌≡◌, ◌≢◌, ℕ, ◌+◌, ◌++◌, ◌∷◌, ◌≤◌, [], List, Option, Some, None, Ok, Err, Result, refl, sym, ◌∙◌, ap, subst, inl, inr, ◌⊎◌, arith}
+use Rattle.std.specs.Prelude.{IsSome, OnErr, OnOk}
 use Rattle.std.specs.Option.{ForSome, option_map, unwrap_or}
 use Rattle.std.proofs.lemmas.Bool.{cases_lt}
 use Rattle.tpz_base.specs.Meshes.{Mesh}
 use Rattle.tri_stream.specs.declared.names.StreamId.{StreamId}
-use Rattle.tri_stream.specs.Streams.{StreamsState, count_of, list_of, told_list, total, IsLive, LeavesOthers, Stands}
+use Rattle.tri_stream.specs.Streams.{StreamsState, count_of, list_of, told_list, total, IsLive, LeavesAll, LeavesOthers, Stands}
 use Rattle.split_pass.specs.Moves.{size_of, Divides, Ends, LeavesAllBut, MakesTwo, Stays}
 
 -- What `make` says.
@@ -156,4 +156,22 @@ same_after id s0 s1 s2 x fresh made ends ended =
     elim (same_name x id) [
       | inl is ↦ let a = ap (count_of s2) is in let b = ap (count_of s0) is in a ∙ ended ∙ sym (b ∙ fresh)
       | inr ne ↦ ends x ne ∙ made x ne
+    ]
+
+-- an `append` leaves the counts of the other streams, Ok or not
+pub append_counts : {X E : Type 0} (r : Result X E) (id : StreamId) (s s' : StreamsState) (h h' : Option (List ℕ)) → OnOk r (LeavesOthers id s s' h h')
+    → OnErr r (LeavesAll s s' h h') → (x : StreamId) → x ≢ id → count_of s' x ≡ count_of s x
+append_counts (Ok v) id s s' h h' others all x ne = others.counts x ne
+append_counts (Err e) id s s' h h' others all x ne = all.counts x
+
+-- the only stream that was made is the only one
+pub none_else : (whole : StreamId) (s0 s1 s2 s3 : StreamsState) → ((x : StreamId) → count_of s0 x ≡ None)
+    → ((told : Option (List ℕ)) → ForSome told (Stands s0) → LeavesOthers whole s0 s1 told told) → ((x : StreamId) → x ≢ whole → count_of s2 x ≡ count_of s1 x)
+    → ((x : StreamId) → x ≢ whole → count_of s3 x ≡ count_of s2 x) → (x : StreamId) → IsLive s3 x → x ≡ whole
+none_else whole s0 s1 s2 s3 none made one two x live =
+    elim (same_name x whole) [
+      | inl same ↦ same
+      | inr ne ↦
+          let gone : count_of s3 x ≡ None = two x ne ∙ one x ne ∙ (made None (nothing_told s0)).counts x ne ∙ none x in
+          absurd (live_differs s3 x x live gone refl)
     ]
