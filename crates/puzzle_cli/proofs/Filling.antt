@@ -1,5 +1,6 @@
 -- A stream to which triangles are added one by one.
-use Rattle.std.proofs.Common.{◌≡◌, ◌≢◌, ℕ, ◌+◌, ◌<◌, ◌≤◌, List, [], ◌∷◌, ◌++◌, take, length, get_or, refl, sym, ◌∙◌, ap, ap₂, subst, arith, append_assoc, append-nil, add-zero, Option, Some, None}
+use Rattle.std.proofs.Common.{◌≡◌, ◌≢◌, ℕ, ◌+◌, ◌<◌, ◌≤◌, List, [], ◌∷◌, ◌++◌, take, length, get_or, refl, sym, ◌∙◌, ap, subst, arith, append_assoc, append-nil, add-zero, inl, inr, Option, Some, None}
+use Rattle.std.proofs.lemmas.Bool.{cases_eq}
 use Rattle.std.specs.Prelude.{is_some, IsSome}
 use Rattle.std.specs.Option.{ForSome, option_map}
 use Rattle.std.proofs.lemmas.List.{take_more, length-take}
@@ -7,8 +8,8 @@ use Rattle.tpz_base.specs.declared.shape.Tri.{Tri}
 use Rattle.tpz_base.specs.Meshes.{Mesh}
 use Rattle.tpz_base.specs.Texts.{Bytes}
 use Rattle.tri_stream.specs.declared.names.StreamId.{StreamId}
-use Rattle.tri_stream.specs.Streams.{StreamsState, count_of, told_list, total, IsLive, Keeps, LeavesOthers, Stands}
-use Rattle.puzzle_cli.specs.Leaves.{Fills}
+use Rattle.tri_stream.specs.Streams.{StreamsState, count_of, list_of, told_list, total, IsLive, Keeps, LeavesOthers, Stands}
+use Rattle.puzzle_cli.specs.Leaves.{Fills, IsSourceOf}
 
 nothing_added : (o : Option Mesh) → o ≡ option_map (λ M. M ++ []) o
 nothing_added None = refl
@@ -72,3 +73,37 @@ live_count (Some n) o' k is live = rw is refl
 
 pub still_live : (id : StreamId) (tris : Mesh) (s0 s1 : StreamsState) (x y : Option Bytes) → Fills id tris s0 s1 x y → IsLive s0 id → IsLive s1 id
 still_live id tris s0 s1 x y fills live = live_count (count_of s0 id) (count_of s1 id) (length tris) fills.count live
+
+-- A stream that was just made, the first one, and then filled.
+
+module _ (id : StreamId) (tris : Mesh) (l : ℕ) (s0 s1 s2 : StreamsState) (before now : Option Bytes)
+    (none : (x : StreamId) → count_of s0 x ≡ None) (level : s1.l ≡ l) (made : count_of s1 id ≡ Some 0)
+    (empty : (bytes : Bytes) → Stands s0 bytes → list_of s1 bytes id ≡ [])
+    (others : (told : Option Bytes) → ForSome told (Stands s0) → LeavesOthers id s0 s1 told told) (stood : (bytes : Bytes) → Stands s0 bytes)
+    (fills : Fills id tris s1 s2 before now) where
+  no_other : (x : StreamId) → x ≢ id → count_of s2 x ≡ None
+  no_other x other = fills.others x other ∙ (others None (λ bytes is. absurd cc)).counts x other ∙ none x
+
+  none_live : (o : Option ℕ) → o ≡ None → IsSome o → ⊥
+  none_live o is live = let no : IsSome {T = ℕ} None = subst (λ o. IsSome o) is live in cc
+
+  only_it : (x : StreamId) → IsLive s2 x → x ≡ id
+  only_it x live = elim (cases_eq x.place id.place) [
+    | inl e ↦ ap (λ (p : ℕ). let y : StreamId = record { place = p } in y) e
+    | inr ne ↦ absurd (none_live (count_of s2 x) (no_other x (λ same. ne (ap (λ (y : StreamId). y.place) same))) live)
+  ]
+
+  filled_list : (o n : Option Bytes) → is_some n ≡ is_some o → told_list s2 n id ≡ option_map (λ M. M ++ tris) (told_list s1 o id) → ForSome n (λ bytes. told_list s2 n id ≡ Some tris)
+  filled_list None None same list = λ bytes is. absurd cc
+  filled_list None (Some m) same list = λ bytes is. absurd cc
+  filled_list (Some o) n same list = λ bytes is. list ∙ ap (λ (M : Mesh). Some (M ++ tris)) (empty o (stood o))
+
+  pub source_of : IsSourceOf l tris s2 id before now
+  source_of = record {
+    level = fills.l ∙ level;
+    list = filled_list before now fills.telling fills.list;
+    count = fills.count ∙ ap (option_map (λ n. n + length tris)) made;
+    only = only_it;
+    stands = fills.stands;
+    telling = fills.telling;
+  }

@@ -2,7 +2,7 @@
 use Rattle.std.proofs.Common.{◌≡◌, ℕ, ◌+◌, ◌<◌, ◌≤◌, Bool, true, false, cond, not, List, [], ◌∷◌, ◌++◌, take, length, refl, sym, ◌∙◌, ap, ap₂, subst, append_assoc, inl, inr, Option, Some, None, get_or, arith}
 use Rattle.std.specs.Prelude.{filter, flat_map, slice_get, All, IfSome, OnOk, Result, Ok, Err}
 use Rattle.std.specs.FinMap as map
-use Rattle.std.specs.Option.{ForSome, option_map}
+use Rattle.std.specs.Option.{ForSome, option_map, option_map_or}
 use Rattle.std.proofs.lemmas.Bool.{cases_Bool}
 use Rattle.std.proofs.lemmas.List.{append-nil, take_all, take_more}
 use Rattle.std.proofs.lemmas.Option.{slice_get_cases, slice_get_within, get_or_from_slice_get}
@@ -20,7 +20,8 @@ use Rattle.tri_stream.specs.declared.names.StreamId.{StreamId}
 use Rattle.tri_stream.specs.Streams.{StreamsState, told_list, IsLive, Stands}
 use Rattle.assign.specs.Names.{LeafTable}
 use Rattle.assign.specs.Leaf.{leaf_patch}
-use Rattle.puzzle_cli.specs.Leaves.{part_of, Adds, AreLive, HasLeaves, KeepsStreams}
+use Rattle.assign.specs.Standing.{named_patch, HoldsPatches}
+use Rattle.puzzle_cli.specs.Leaves.{part_of, Adds, AreLive, KeepsStreams}
 
 -- Streams that are as before.
 
@@ -35,11 +36,12 @@ pub live_still : (leaves : LeafTable) {a b : StreamsState} {x y : Option Bytes} 
 live_still leaves kept live = λ name id is. rw (kept.counts id) (live name id is)
 
 leaves_still : {L : ℕ} {F : List Point} {M : Mesh} {leaves : LeafTable} {a b : StreamsState} {x y : Option Bytes}
-    → KeepsStreams a b x y → HasLeaves L F M leaves a x → HasLeaves L F M leaves b y
-leaves_still kept has = record {
-  entry = λ name T id is found. kept.lists id ∙ has.entry name T id is found;
-  none = has.none;
-}
+    → KeepsStreams a b x y → HoldsPatches L F M leaves a x → HoldsPatches L F M leaves b y
+leaves_still kept has = record { named = has.named; lists = λ name id found. kept.lists id ∙ has.lists name id found }
+
+-- the triangles of a leaf by its name
+patch_named : (L : ℕ) (F : List Point) (M : Mesh) (name : Tet) (T : Tetrahedron) → tetrahedron_of L name ≡ Some T → named_patch L F M name ≡ leaf_patch L F M T
+patch_named L F M name T is = ap (λ o. option_map_or (leaf_patch L F M) o []) is
 
 -- What some tetrahedra add, and then others.
 
@@ -72,14 +74,14 @@ module _ (L : ℕ) (F : List Point) (leaves : LeafTable) where
       → has_diamond F (diamond T) ≡ false → map.get leaves name ≡ Some id → ForSome (told_list s told id) (λ M. new ≡ old ++ M)
       → Adds L F leaves s told (T ∷ []) old new
   adds_stream s told name T id old new is out found added = record {
-    added = λ M has. added (leaf_patch L F M T) (has.entry name T id is found) ∙ ap (λ (l : Mesh). old ++ l) (sym (alone M T out));
+    added = λ M has. added (leaf_patch L F M T) (has.lists name id found ∙ ap Some (patch_named L F M name T is)) ∙ ap (λ (l : Mesh). old ++ l) (sym (alone M T out));
   }
 
   -- one without a stream adds none
   pub adds_empty : (s : StreamsState) (told : Option Bytes) (name : Tet) (T : Tetrahedron) (old : Mesh) → tetrahedron_of L name ≡ Some T
       → has_diamond F (diamond T) ≡ false → map.get leaves name ≡ None → Adds L F leaves s told (T ∷ []) old old
   adds_empty s told name T old is out none = record {
-    added = λ M has. sym (append-nil old) ∙ ap (λ (l : Mesh). old ++ l) (sym (alone M T out ∙ has.none name T is out none));
+    added = λ M has. sym (append-nil old) ∙ ap (λ (l : Mesh). old ++ l) (sym (alone M T out ∙ sym (patch_named L F M name T is) ∙ (has.named name).0 none));
   }
 
 -- what all add is the mesh of the cut
@@ -94,7 +96,7 @@ parts_are L F M (T ∷ ts) =
     ]
 
 pub cut_added : (L : ℕ) (F : List Point) (leaves : LeafTable) (s : StreamsState) (told : Option Bytes) (new : Mesh)
-    → Adds L F leaves s told (roots L ++ flat_map (parts L) F) [] new → (M : Mesh) → HasLeaves L F M leaves s told → new ≡ cut_mesh L (leaf_patch L F M) F
+    → Adds L F leaves s told (roots L ++ flat_map (parts L) F) [] new → (M : Mesh) → HoldsPatches L F M leaves s told → new ≡ cut_mesh L (leaf_patch L F M) F
 cut_added L F leaves s told new adds M has = adds.added M has ∙ parts_are L F M (roots L ++ flat_map (parts L) F)
 
 -- What was read of a list.

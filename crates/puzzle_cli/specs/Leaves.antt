@@ -13,6 +13,7 @@ use Rattle.tri_stream.specs.declared.names.StreamId.{StreamId}
 use Rattle.tri_stream.specs.Streams.{StreamsState, count_of, told_list, total, IsLive, Stands}
 use Rattle.assign.specs.Names.{LeafTable}
 use Rattle.assign.specs.Leaf.{leaf_patch}
+use Rattle.assign.specs.Standing.{HoldsPatches}
 
 -- what a tetrahedron adds to the mesh of the cut F: nothing where its own diamond is in F, else the triangles whose leaf it is
 unfoldable pub part_of : ℕ → List Point → Mesh → Tetrahedron → Mesh
@@ -22,16 +23,9 @@ part_of L F M T = if has_diamond F (diamond T) then [] else leaf_patch L F M T
 abbrev pub AreLive : LeafTable → StreamsState → Type 0
 AreLive leaves s = (name : Tet) (id : StreamId) → map.get leaves name ≡ Some id → IsLive s id
 
--- The streams in the table hold the triangles of the leaves, and a leaf without entry has none.
-pub record HasLeaves (L : ℕ) (F : List Point) (M : Mesh) (leaves : LeafTable) (s : StreamsState) (told : Option Bytes) : Type 0 where
-  pub entry : (name : Tet) (T : Tetrahedron) (id : StreamId) → tetrahedron_of L name ≡ Some T → map.get leaves name ≡ Some id
-      → told_list s told id ≡ Some (leaf_patch L F M T)
-  pub none : (name : Tet) (T : Tetrahedron) → tetrahedron_of L name ≡ Some T → has_diamond F (diamond T) ≡ false → map.get leaves name ≡ None
-      → leaf_patch L F M T ≡ []
-
 -- Where the table has the leaves of a mesh, the new mesh is the old one, and then what these tetrahedra add.
 pub record Adds (L : ℕ) (F : List Point) (leaves : LeafTable) (s : StreamsState) (told : Option Bytes) (ts : List Tetrahedron) (old new : Mesh) : Type 0 where
-  pub added : (M : Mesh) → HasLeaves L F M leaves s told → new ≡ old ++ flat_map (part_of L F M) ts
+  pub added : (M : Mesh) → HoldsPatches L F M leaves s told → new ≡ old ++ flat_map (part_of L F M) ts
 
 -- Every stream is as before.
 pub record KeepsStreams (old new : StreamsState) (before now : Option Bytes) : Type 0 where
@@ -47,4 +41,13 @@ pub record Fills (id : StreamId) (tris : Mesh) (old new : StreamsState) (before 
   pub total : total new ≡ total old + length tris
   pub l : new.l ≡ old.l
   pub stands : ForSome now (Stands new)
+  pub telling : is_some now ≡ is_some before
+
+-- One stream alone is live, and holds these triangles of the cube. The bytes are told as before or not.
+pub record IsSourceOf (l : ℕ) (tris : Mesh) (s : StreamsState) (whole : StreamId) (before now : Option Bytes) : Type 0 where
+  pub level : s.l ≡ l
+  pub list : ForSome now (λ bytes. told_list s now whole ≡ Some tris)
+  pub count : count_of s whole ≡ Some (length tris)
+  pub only : (id : StreamId) → IsLive s id → id ≡ whole
+  pub stands : ForSome now (Stands s)
   pub telling : is_some now ≡ is_some before

@@ -6,6 +6,8 @@ use Rattle.ply_head.specs.declared.fault.HeadFault.TheVariants as head
 use Rattle.ply_body.specs.declared.fault.BodyFault.{BodyFault}
 use Rattle.ply_body.specs.declared.fault.BodyFault.TheVariants as body
 use Rattle.ply_body.specs.Inputs.{Refusal, InHead, InBody}
+use Rattle.split_pass.specs.declared.fault.SplitFault.{SplitFault}
+use Rattle.split_pass.specs.declared.fault.SplitFault.TheVariants as split
 use Rattle.puzzle_cli.specs.declared.status.Status.{Status}
 use Rattle.puzzle_cli.specs.declared.status.Status.TheVariants.{Ok, Usage, BadInput, Extent, InputFault, WorkFault, WorkDamage, TooManyRecords, OutFault, Memory}
 use Rattle.puzzle_cli.specs.declared.status.InputKind.{InputKind}
@@ -83,6 +85,11 @@ body_status (body.TooLong element row) = BadInput kind.TooLong (Row element row)
 body_status body.InputFault = InputFault
 body_status body.WorkFault = WorkFault
 body_status (body.WorkDamage offset) = WorkDamage offset
+
+-- the status of a fault of a split
+abbrev pub split_status : SplitFault → Status
+split_status split.TooManyRecords = TooManyRecords
+split_status split.Memory = Memory
 
 -- the status of a refusal of the input
 abbrev pub status_of : Refusal → Status

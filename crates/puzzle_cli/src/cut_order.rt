@@ -10,7 +10,8 @@ ghost use Rattle.diamond_graph.specs.Graphs.{centres, IsGraph};
 ghost use Rattle.tri_stream.specs.Streams.{told_list, IsLive, Stands};
 ghost use Rattle.assign.specs.Leaf.{leaf_patch};
 ghost use Rattle.puzzle_cli.specs.declared.status.Status.{Status};
-ghost use Rattle.puzzle_cli.specs.Leaves.{Adds, AreLive, HasLeaves, KeepsStreams};
+ghost use Rattle.assign.specs.Standing.{HoldsPatches};
+ghost use Rattle.puzzle_cli.specs.Leaves.{Adds, AreLive, KeepsStreams};
 ghost use Rattle.puzzle_cli.specs.Numbering.{numbered_mesh, IsNumbering};
 
 use crate::Status;
@@ -183,7 +184,7 @@ pub fn number_leaves<W: Blob>(
     requires live { AreLive split.now.leaves streams.old }
     requires stands { ForSome (W.held work.old) (Stands streams.old) }
     ensures mesh { IfOk result (λ numbered. (M : Mesh)
-        → HasLeaves split.now.graph.l (centres split.now.graph) M split.now.leaves streams.old (W.held work.old)
+        → HoldsPatches split.now.graph.l (centres split.now.graph) M split.now.leaves streams.old (W.held work.old)
         → numbered_mesh numbered ≡ cut_mesh split.now.graph.l (leaf_patch split.now.graph.l (centres split.now.graph) M) (centres split.now.graph)) }
     ensures numbering { IfOk result IsNumbering }
     ensures later { W.faults work.old ≤ W.faults work.new }

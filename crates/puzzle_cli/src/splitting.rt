@@ -10,16 +10,27 @@ ghost use Rattle.puzzle_cli.specs.declared.status.Status.{Status};
 ghost use Rattle.puzzle_cli.specs.Finest.{mesh_for, split_for};
 ghost use Rattle.puzzle_cli.specs.Numbering.{numbered_mesh, IsNumbering};
 ghost use Rattle.puzzle_cli.specs.Readings.{IsSmallMesh};
-ghost use Rattle.puzzle_cli.specs.Leaves.{Fills};
+ghost use Rattle.puzzle_cli.specs.Leaves.{Fills, IsSourceOf};
 
 use crate::Status;
 use crate::cut_order::number_leaves;
 use crate::numbering::{Numbered, number_by_roots};
 use crate::reading::InputMesh;
+use crate::status::status_of_split;
+use assign::Leaves;
+use diamond_graph::Closing;
+use split_pass::split;
 use std::alloc::Global;
 use tpz_base::Tri;
 use tpz_io::Blob;
 use tri_stream::{StreamFault, StreamId, Streams};
+
+/// Streams of triangles, and the one that has all.
+#[derive(Drop)]
+struct Source {
+    streams: Streams,
+    whole: StreamId,
+}
 
 // Adds triangles, in order, at the end of a stream.
 fn fill<W: Blob>(
@@ -41,7 +52,29 @@ fn fill<W: Blob>(
     Ok(())
 }
 
-// Stub.
+// A stream of these triangles, which is the only one. The points of the input end at `end` in the work file.
+fn stream_of<W: Blob>(
+    alloc: Global,
+    tris: Vec<Tri>,
+    l: u8,
+    end: u64,
+    work: &mut W,
+) -> Result<Source, Status>
+    requires level { (1 ≤ l) × (l ≤ 30) }
+    requires end { end ≤ 2 ^ 62 }
+    requires plain { All (IsHeld l) tris.items }
+    requires few { length tris.items ≤ 2147483648 }
+    ensures holds { IfOk result (λ source. IsSourceOf l tris.items source.streams source.whole (W.held work.old) (W.held work.new)) }
+    ensures memory { IfErr result (λ status. status ≡ Status.Memory) }
+    ensures later { W.faults work.old ≤ W.faults work.new }
+{
+    let mut streams = Streams::new(alloc, end, l);
+    let whole = streams.make()?;
+    fill(&mut streams, work, whole, &tris)?;
+    Ok(Source { streams, whole })
+}
+
+// Numbers the vertices of a mesh that is split by a cap.
 fn number_by_cap<W: Blob>(
     alloc: Global,
     mesh: InputMesh,
@@ -56,7 +89,15 @@ fn number_by_cap<W: Blob>(
     ensures status { IfErr result (λ status. (status ≡ Status.Memory) ⊎ (status ≡ Status.TooManyRecords)) }
     ensures later { W.faults work.old ≤ W.faults work.new }
 {
-    Err(Status::Memory)
+    let count = mesh.tris.as_slice().len();
+    let mut source = stream_of(alloc, mesh.tris, mesh.l, mesh.end, work)?;
+    let closing = Closing::new(alloc, mesh.l);
+    let leaves = Leaves::new(alloc);
+    let made = match split(&mut source.streams, work, source.whole, closing, leaves, cap) {
+        Ok(made) => made,
+        Err(fault) => return Err(status_of_split(fault)),
+    };
+    number_leaves(alloc, count, &mut source.streams, work, &made)
 }
 
 /// Numbers the vertices of a mesh in the order of its finest cut. Without a cap no diamond is split.

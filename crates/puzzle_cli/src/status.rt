@@ -2,10 +2,11 @@
 ghost use Rattle.std.specs.Prelude.{◌≡◌, ◌++◌, IfOk, codes, string_bytes};
 ghost use Rattle.puzzle_cli.specs.declared.status.Status.TheVariants.{BadInput, Memory};
 ghost use Rattle.puzzle_cli.specs.declared.status.Place.TheVariants.{Line, Row};
-ghost use Rattle.puzzle_cli.specs.Statuses.{body_status, head_status, kind_text, place_text};
+ghost use Rattle.puzzle_cli.specs.Statuses.{body_status, head_status, kind_text, place_text, split_status};
 
 use ply_body::BodyFault;
 use ply_head::HeadFault;
+use split_pass::SplitFault;
 use std::alloc::{AllocError, AllocFailed, Global};
 use tri_stream::StreamFault;
 
@@ -210,6 +211,16 @@ pub fn status_of_head(fault: HeadFault) -> Status
         HeadFault::TooMany { line } => at_line(InputKind::TooMany, line),
         HeadFault::InputFault => Status::InputFault,
         HeadFault::Memory => Status::Memory,
+    }
+}
+
+/// The status of a mesh that isn't split.
+pub fn status_of_split(fault: SplitFault) -> Status
+    ensures { result ≡ split_status fault }
+{
+    match fault {
+        SplitFault::TooManyRecords => Status::TooManyRecords,
+        SplitFault::Memory => Status::Memory,
     }
 }
 

@@ -39,7 +39,6 @@ pub fn split<B: Blob>(
     // The stream is the only one.
     requires whole { IsLive streams.old whole }
     requires only { (id : StreamId) → IsLive streams.old id → id ≡ whole }
-    requires total { total streams.old ≡ size_of streams.old whole }
     requires few { size_of streams.old whole ≤ 2147483648 }
     requires stands { ForSome (B.held work.old) (Stands streams.old) }
     // Where the bytes are told: the graph, and the streams of its leaves.

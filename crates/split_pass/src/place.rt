@@ -9,7 +9,7 @@ ghost use Rattle.tri_stream.specs.Streams.{count_of, list_of, told_list, total, 
 ghost use Rattle.tpz_base.specs.Meshes.{is_whole, Mesh};
 ghost use Rattle.tetra_name.specs.Names.{tetrahedron_of, IsBound, IsName};
 ghost use Rattle.diamond_graph.specs.Graphs.{centres};
-ghost use Rattle.tri_stream.specs.Cubes.{IsTriInCube};
+ghost use Rattle.tpz_base.specs.Cubes.{IsTriInCube};
 ghost use Rattle.assign.specs.Leaf.{leaf as leaf_at};
 ghost use Rattle.assign.specs.Standing.{HoldsPatches};
 ghost use Rattle.split_pass.specs.declared.fault.SplitFault.{SplitFault};

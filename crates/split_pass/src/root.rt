@@ -5,7 +5,7 @@ ghost use Rattle.tpz_base.specs.Meshes.{is_whole, Mesh};
 ghost use Rattle.tpz_base.specs.Roots.{is_in_root, root_part};
 ghost use Rattle.tri_stream.specs.declared.names.Cursor.{Cursor};
 ghost use Rattle.tri_stream.specs.declared.names.StreamId.{StreamId};
-ghost use Rattle.tri_stream.specs.Cubes.{IsTriInCube};
+ghost use Rattle.tpz_base.specs.Cubes.{IsTriInCube};
 ghost use Rattle.tri_stream.specs.Streams.{count_of, told_list, total, IsLive, Stands, Follows};
 ghost use Rattle.split_pass.specs.declared.fault.SplitFault.{SplitFault};
 ghost use Rattle.split_pass.specs.Moves.{size_of, Adds, Stays};

@@ -1,2 +1,3 @@
 mod Places
 mod Words
+pub mod OneStream

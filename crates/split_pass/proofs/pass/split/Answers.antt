@@ -1,5 +1,9 @@
 -- The search has found what is split, and the triangles of each leaf are in its stream.
-use Rattle.std.proofs.Common.{◌≡◌, ◌≤◌, ◌<◌, ◌∙◌, ℕ, List, Err, Some, length, sym, ap, subst}
+use Rattle.std.proofs.Common.{◌≡◌, ◌≤◌, ◌<◌, ◌+◌, ◌∙◌, ℕ, List, Option, Err, None, Some, length, refl, sym, ap, subst, arith}
+use Rattle.std.specs.Prelude.{IsSome}
+use Rattle.std.specs.Option.{ForSome, unwrap_or}
+use Rattle.tri_stream.specs.Streams.{count_of, total, IsLive}
+use Rattle.tri_stream.proofs.OneStream.{total_of_one}
 use Rattle.std.proofs.lemmas.Result.{err_from_is_err_and}
 use Rattle.tpz_base.specs.declared.shape.Point.{Point}
 use Rattle.tpz_base.specs.Meshes.{Mesh}
@@ -54,3 +58,26 @@ returns-clause-names g c =
     subst (λ (n : ℕ). NamesStreams n (centres c.in_ok-graph.graph) c.place_all.new.leaves c.give_back.new.self) l
     (names_after c.in_ok-graph.graph.l (centres c.in_ok-graph.graph) c.args.whole c.place_all.new.leaves c.place_all.new.streams c.give_back.new.self
     (held c.place_all.new.work) (held c.give_back.new.blob) c.in_ok-place_all.ensures.tidy c.in_ok-give_back.ensures.others)
+
+given_back : (o : Option ℕ) (a b : ℕ) → IsSome o → ForSome o (λ n. a + n ≡ b) → a + unwrap_or o 0 ≡ b
+given_back None a b live h = absurd cc
+given_back (Some n) a b live h = h n refl
+
+pub find_all-requires-clause-few : goal.find_all-requires-clause-few
+find_all-requires-clause-few g c = let one = total_of_one c.args.streams.now c.args.whole c.requires.only in omega (arith, one, c.requires.few)
+
+pub place_all-requires-clause-few : goal.place_all-requires-clause-few
+place_all-requires-clause-few g c =
+    let one = total_of_one c.args.streams.now c.args.whole c.requires.only in
+    omega (arith, one, c.requires.few, c.in_ok-find_all.ensures.total)
+
+pub returns-clause-total : goal.returns-clause-total
+returns-clause-total g c =
+    let one = total_of_one c.args.streams.now c.args.whole c.requires.only in
+    let first = c.in_ok-find_all.ensures.counts c.args.whole in
+    let both = c.in_ok-place_all.ensures.count ∙ first in
+    let found = ap (λ o. unwrap_or o 0) first in
+    let placed = ap (λ o. unwrap_or o 0) both in
+    let live : IsLive c.place_all.new.streams c.args.whole = rw both c.requires.whole in
+    let back = given_back (count_of c.place_all.new.streams c.args.whole) (total c.give_back.new.self) (total c.place_all.new.streams) live c.in_ok-give_back.ensures.total in
+    omega (arith, one, found, placed, back, c.in_ok-place_all.ensures.total, c.in_ok-find_all.ensures.total)

@@ -1,0 +1,42 @@
+-- Where one stream is live alone, all triangles are its own.
+use Rattle.std.proofs.Common.{◌≡◌, ℕ, zero, suc, ◌+◌, List, [], ◌∷◌, length, refl, sym, ◌∙◌, ap, ap₂, arith, Option, None, Some}
+use Rattle.std.specs.Prelude.{sum_by, IsSome}
+use Rattle.std.specs.Option.{option_map, unwrap_or}
+use Rattle.std.proofs.lemmas.List.Sums.{sum_by-cons}
+use Rattle.tpz_base.specs.Meshes.{Mesh}
+use Rattle.tri_stream.specs.declared.names.StreamId.{StreamId}
+use Rattle.tri_stream.specs.Lists.{list_at, size, size_of_all}
+use Rattle.tri_stream.specs.Streams.{StreamsState, count_of, total, IsLive}
+
+none_left : (lists : List (Option Mesh)) → ((i : ℕ) → IsSome (list_at lists i) → ⊥) → size_of_all lists ≡ 0
+none_left [] never = refl
+none_left (None ∷ lists) never =
+    let here : size None ≡ 0 = refl in
+    let rest : sum_by size lists ≡ 0 = none_left lists (λ i h. never (suc i) h) in
+    sum_by-cons size None lists ∙ omega (arith, here, rest)
+none_left (Some M ∷ lists) never = absurd (never 0 refl)
+
+one_left : (lists : List (Option Mesh)) (place : ℕ) → ((i : ℕ) → IsSome (list_at lists i) → i ≡ place) → size_of_all lists ≡ size (list_at lists place)
+one_left [] place only = refl
+one_left (o ∷ lists) zero only =
+    let rest : sum_by size lists ≡ 0 = none_left lists (λ i h. let no = only (suc i) h in omega arith) in
+    sum_by-cons size o lists ∙ omega (arith, rest)
+one_left (None ∷ lists) (suc place) only =
+    let here : size None ≡ 0 = refl in
+    let rest : sum_by size lists ≡ size (list_at lists place) = one_left lists place (λ i h. let is = only (suc i) h in omega arith) in
+    sum_by-cons size None lists ∙ omega (arith, here, rest)
+one_left (Some M ∷ lists) (suc place) only = absurd (let no : 0 ≡ suc place = only 0 refl in omega arith)
+
+counted : (o : Option Mesh) → size o ≡ unwrap_or (option_map length o) 0
+counted None = refl
+counted (Some M) = refl
+
+some_counted : (o : Option Mesh) → IsSome o → IsSome (option_map length o)
+some_counted None h = h
+some_counted (Some M) h = refl
+
+pub total_of_one : (s : StreamsState) (id : StreamId) → ((x : StreamId) → IsLive s x → x ≡ id) → total s ≡ unwrap_or (count_of s id) 0
+unfolding total count_of
+total_of_one s id only =
+    one_left s.lists id.place (λ i h. ap (λ (x : StreamId). x.place) (only (record { place = i }) (some_counted (list_at s.lists i) h)))
+    ∙ counted (list_at s.lists id.place)
