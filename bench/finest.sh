@@ -8,7 +8,8 @@
 # that program, built. PROVED is the proved program; without it ./tpz builds it where need be. SCRATCH is a folder for
 # the mesh and the parts, about 100 MB; without it a temporary one is made, and removed at the end. SIZE is the number
 # of cells along an edge (288 where it isn't given), so there are 12 SIZE^2 triangles; INPUT is a plain mesh to take in
-# place of that surface; RUNS is how often each program runs (3); FORMATS is which of ascii, little and big (all three).
+# place of that surface; RUNS is how often each program runs (3); FORMATS is which of ascii, little and big (all three);
+# CAPS is the caps to split by, where none is no cap (none and 1024).
 #
 # Both programs run in turn. Printed are the least wall time, the least processor time (user and system) and the
 # greatest peak of memory of each, the ratios, and whether the two parts are the same byte for byte. The exit status is
@@ -59,7 +60,8 @@ fi
 # One run: its note stays in FOLDER.note, and its wall, user and system seconds and peak in KB are one more line of
 # FOLDER.times.
 measure() {
-    /usr/bin/time -a -o "$scratch/$2.times" -f '%e %U %S %M' "$1" "$scratch/$2" finest >"$scratch/$2.note" ||
+    # shellcheck disable=SC2086 # no option, or two words
+    /usr/bin/time -a -o "$scratch/$2.times" -f '%e %U %S %M' "$1" "$scratch/$2" finest $words >"$scratch/$2.note" ||
         stop "$1 didn't end well"
 }
 
@@ -83,12 +85,9 @@ table() {
 }
 
 same=0
-for format in ${FORMATS:-ascii little big}; do
-    case $format in
-    ascii) cp "$mesh" "$scratch/proved/input.ply" ;;
-    *) perl "$here/to_binary.pl" "$format" <"$mesh" >"$scratch/proved/input.ply" ;;
-    esac
-    cp "$scratch/proved/input.ply" "$scratch/plain/input.ply"
+
+# Both programs in turn over one input and one cap.
+compare() {
     : >"$scratch/proved.times"
     : >"$scratch/plain.times"
     run=0
@@ -97,7 +96,7 @@ for format in ${FORMATS:-ascii little big}; do
         measure "$yardstick" plain
         run=$((run + 1))
     done
-    printf '%s: ' "$format"
+    printf '%s%s: ' "$format" "${words:+ $words}"
     cat "$scratch/proved.note"
     table
     if cmp "$scratch/proved/part-1.ply" "$scratch/plain/part-1.ply" && cmp "$scratch/proved.note" "$scratch/plain.note"; then
@@ -105,5 +104,20 @@ for format in ${FORMATS:-ascii little big}; do
     else
         same=1
     fi
+}
+
+for format in ${FORMATS:-ascii little big}; do
+    case $format in
+    ascii) cp "$mesh" "$scratch/proved/input.ply" ;;
+    *) perl "$here/to_binary.pl" "$format" <"$mesh" >"$scratch/proved/input.ply" ;;
+    esac
+    cp "$scratch/proved/input.ply" "$scratch/plain/input.ply"
+    for cap in ${CAPS:-none 1024}; do
+        case $cap in
+        none) words= ;;
+        *) words="--cap $cap" ;;
+        esac
+        compare
+    done
 done
 exit "$same"

@@ -1,5 +1,5 @@
 -- A stream to which triangles are added one by one.
-use Rattle.std.proofs.Common.{◌≡◌, ◌≢◌, ℕ, ◌+◌, ◌<◌, ◌≤◌, List, [], ◌∷◌, ◌++◌, take, length, get_or, refl, sym, ◌∙◌, ap, subst, arith, append_assoc, append-nil, add-zero, inl, inr, Option, Some, None}
+use Rattle.std.proofs.Common.{◌≡◌, ◌≢◌, ℕ, ◌+◌, ◌<◌, ◌≤◌, List, [], ◌∷◌, ◌++◌, take, length, get_or, refl, sym, ◌∙◌, ap, subst, arith, append_assoc, append-nil, add-zero, zero-add, inl, inr, Option, Some, None}
 use Rattle.std.proofs.lemmas.Bool.{cases_eq}
 use Rattle.std.specs.Prelude.{is_some, IsSome}
 use Rattle.std.specs.Option.{ForSome, option_map}
@@ -102,7 +102,7 @@ module _ (id : StreamId) (tris : Mesh) (l : ℕ) (s0 s1 s2 : StreamsState) (befo
   source_of = record {
     level = fills.l ∙ level;
     list = filled_list before now fills.telling fills.list;
-    count = fills.count ∙ ap (option_map (λ n. n + length tris)) made;
+    count = fills.count ∙ ap (option_map (λ n. n + length tris)) made ∙ ap Some (zero-add (length tris));
     only = only_it;
     stands = fills.stands;
     telling = fills.telling;

@@ -53,10 +53,10 @@ module _ (L : ℕ) (F : List Point) (leaves : LeafTable) where
       → Adds L F leaves a x ts old mid → Adds L F leaves b y us mid new → Adds L F leaves a x (ts ++ us) old new
   adds_more ts us old mid new kept first last = record {
     added = λ M has.
-      last.added M (leaves_still kept has)
-      ∙ ap (λ (l : Mesh). l ++ flat_map (part_of L F M) us) (first.added M has)
-      ∙ append_assoc old (flat_map (part_of L F M) ts) (flat_map (part_of L F M) us)
-      ∙ ap (λ (l : Mesh). old ++ l) (sym (flat_map-append (part_of L F M) ts us));
+        last.added M (leaves_still kept has)
+        ∙ ap (λ (l : Mesh). l ++ flat_map (part_of L F M) us) (first.added M has)
+        ∙ append_assoc old (flat_map (part_of L F M) ts) (flat_map (part_of L F M) us)
+        ∙ ap (λ (l : Mesh). old ++ l) (sym (flat_map-append (part_of L F M) ts us));
   }
 
   -- a tetrahedron whose own diamond is split adds nothing
@@ -180,3 +180,7 @@ module _ (L : ℕ) (F : List Point) (leaves : LeafTable) where
 
 pub keeps_self : (s : StreamsState) (told : Option Bytes) → ForSome told (Stands s) → KeepsStreams s s told told
 keeps_self s told stands = record { counts = λ x. refl; lists = λ x. refl; stands = stands }
+
+pub on_any : {T E : Type 0} (r : Result T E) (P : Type 0) → P → OnOk r P
+on_any (Ok x) P p = p
+on_any (Err e) P p = tt

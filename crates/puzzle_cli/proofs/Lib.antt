@@ -9,6 +9,7 @@ pub mod RootCut
 pub mod Filling
 pub mod JobRanges
 pub mod Completing
+pub mod SplitMesh
 pub mod WorkedWords
 pub mod Parses
 pub mod Givens

@@ -93,7 +93,14 @@ fn number_by_cap<W: Blob>(
     let mut source = stream_of(alloc, mesh.tris, mesh.l, mesh.end, work)?;
     let closing = Closing::new(alloc, mesh.l);
     let leaves = Leaves::new(alloc);
-    let made = match split(&mut source.streams, work, source.whole, closing, leaves, cap) {
+    let made = match split(
+        &mut source.streams,
+        work,
+        source.whole,
+        closing,
+        leaves,
+        cap,
+    ) {
         Ok(made) => made,
         Err(fault) => return Err(status_of_split(fault)),
     };

@@ -244,7 +244,15 @@ fn a_mesh_is_written_leaf_by_leaf(rt: HostRuntime) -> Result<(), Fail> {
     for (name, words, mesh, part, note) in CUT {
         let text = mesh_text(alloc, mesh)?;
         let part = mesh_text(alloc, part)?;
-        expect_words(&rt, alloc, words, text.as_bytes(), part.as_bytes(), note, name)?;
+        expect_words(
+            &rt,
+            alloc,
+            words,
+            text.as_bytes(),
+            part.as_bytes(),
+            note,
+            name,
+        )?;
     }
     Ok(())
 }

@@ -20,10 +20,10 @@ triangles-preserved g c =
       given = grind (arith, common_steps);
       follows = c.read.ensures.cursor;
       mesh = λ M was.
-        let here : slice_get M c.triangles.at.given ≡ Some c.in-Some.t = sym (read.next M (ap before inv.stream ∙ inv.kept.lists c.args.id ∙ was)) ∙ c.in-Some.is in
-        rw one (c.in_ok-add.ensures.mesh ∙ ap (λ (l : Mesh). l ++ c.in-Some.t ∷ []) (inv.mesh M was)
-        ∙ append_assoc (numbered_mesh c.args.numbered.now) (take c.triangles.at.given M) (c.in-Some.t ∷ [])
-        ∙ ap (λ (l : Mesh). numbered_mesh c.args.numbered.now ++ l) (sym (one_taken M c.triangles.at.given c.in-Some.t here)));
+          let here : slice_get M c.triangles.at.given ≡ Some c.in-Some.t = sym (read.next M (ap before inv.stream ∙ inv.kept.lists c.args.id ∙ was)) ∙ c.in-Some.is in
+          rw one (c.in_ok-add.ensures.mesh ∙ ap (λ (l : Mesh). l ++ c.in-Some.t ∷ []) (inv.mesh M was)
+          ∙ append_assoc (numbered_mesh c.args.numbered.now) (take c.triangles.at.given M) (c.in-Some.t ∷ [])
+          ∙ ap (λ (l : Mesh). numbered_mesh c.args.numbered.now ++ l) (sym (one_taken M c.triangles.at.given c.in-Some.t here)));
       numbering = c.in_ok-add.ensures.numbering;
       kept = record {
         counts = λ x. c.read.ensures.all.counts x ∙ inv.kept.counts x;

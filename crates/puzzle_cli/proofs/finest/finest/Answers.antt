@@ -18,9 +18,9 @@ returns-in-Err-clause-accepted g c = λ h.
     elim h [
       | inl e ↦ absurd (subst (λ s. IsUnread s) e (c.in-Err.ensures.unread c.in-Err.status refl))
       | inr k ↦ elim k [
-          | inl e ↦ absurd (subst (λ s. IsUnread s) e (c.in-Err.ensures.unread c.in-Err.status refl))
-          | inr e ↦ absurd (subst (λ s. IsUnread s) e (c.in-Err.ensures.unread c.in-Err.status refl))
-        ]
+        | inl e ↦ absurd (subst (λ s. IsUnread s) e (c.in-Err.ensures.unread c.in-Err.status refl))
+        | inr e ↦ absurd (subst (λ s. IsUnread s) e (c.in-Err.ensures.unread c.in-Err.status refl))
+      ]
     ]
 
 pub returns-in-Err-clause-few : goal.returns-in-Err-clause-few

@@ -55,7 +55,7 @@ tris-preserved g c =
       points = subst (λ h. ForSome h (HoldsPoints c.args.frame.now)) (sym c.next_tri.ensures.held) c.tris.invariant.points;
       held = c.next_tri.ensures.held ∙ c.tris.invariant.held;
       plain = subst (All (IsHeld c.args.frame.now.l)) (sym c.in_ok-push.ensures.items) (All-push (IsHeld c.args.frame.now.l) c.tris.tris.items c.in-Some.t c.tris.invariant.plain
-      (record { whole = c.in-Ok.ensures.whole c.in-Some.t (ap Ok c.in-Some.is); cube = c.in-Ok.ensures.cube c.in-Some.t (ap Ok c.in-Some.is) }));
+          (record { whole = c.in-Ok.ensures.whole c.in-Some.t (ap Ok c.in-Some.is); cube = c.in-Ok.ensures.cube c.in-Some.t (ap Ok c.in-Some.is) }));
       count = ap length c.in_ok-push.ensures.items ∙ length_push c.tris.tris.items c.in-Some.t ∙ ap (λ (n : ℕ). n + 1) c.tris.invariant.count ∙ sym given.2.given;
       read = (
         read.0 ++ (given.0 ++ given.1 ∷ []),
