@@ -165,9 +165,10 @@ impl Graph {
         ensures { ForSome (slice_get self.old.records i) (λ r.
             self.new ≡ record { l = self.old.l; records = slice_set self.old.records i (with_errors r own err cell); tests = self.old.tests }) }
     {
-        let old = self.records[i as usize];
-        self.records[i as usize] = Record {
-            centre: old.centre,
+        let place = i as usize;
+        let centre = self.records[place].centre;
+        self.records[place] = Record {
+            centre,
             own,
             err,
             cell,
