@@ -29,16 +29,14 @@ pub kept_centres : (L : ℕ) (keys : List Point) → IsKept L keys → All (IsCe
 kept_centres L keys h = All-weaker (CanSplit L) (IsCentre L) (λ x k. k.0) keys h.can_split
 
 -- the next centre isn't one of those before it
-absent_next : (rs : List Ranked) (i : ℕ) (d : Ranked) → NoTwice (map ranked_point rs) → i < length rs
-    → list_any (point_eq (ranked_point (get_or rs i d))) (map ranked_point (take i rs)) ≡ false
-absent_next [] i d once low = absurd (omega (arith, low))
-absent_next (r ∷ rs) zero d once low = refl
-absent_next (r ∷ rs) (suc i) d once low =
+pub absent_next : {X : Type 0} (f : X → Point) (rs : List X) (i : ℕ) (d : X) → NoTwice (map f rs) → i < length rs → list_any (point_eq (f (get_or rs i d))) (map f (take i rs)) ≡ false
+absent_next f [] i d once low = absurd (omega (arith, low))
+absent_next f (r ∷ rs) zero d once low = refl
+absent_next f (r ∷ rs) (suc i) d once low =
     let low' : i < length rs = omega (arith, low) in
-    let apart : point_eq (ranked_point (get_or rs i d)) (ranked_point r) ≡ false
-    = ne-point_eq (ranked_point (get_or rs i d)) (ranked_point r)
-    (λ e. once.0 (ranked_point (get_or rs i d)) (map-member ranked_point rs (get_or rs i d) (get_member rs i d low')) (sym e)) in
-    ap₂ (λ a b. a || b) apart (absent_next rs i d once.1 low')
+    let apart : point_eq (f (get_or rs i d)) (f r) ≡ false
+    = ne-point_eq (f (get_or rs i d)) (f r) (λ e. once.0 (f (get_or rs i d)) (map-member f rs (get_or rs i d) (get_member rs i d low')) (sym e)) in
+    ap₂ (λ a b. a || b) apart (absent_next f rs i d once.1 low')
 
 take_next : {X Y : Type 0} (f : X → Y) (xs : List X) (i : ℕ) (d : X) → i < length xs → map f (take (suc i) xs) ≡ map f (take i xs) ++ f (get_or xs i d) ∷ []
 take_next f [] i d low = absurd (omega (arith, low))
@@ -53,7 +51,7 @@ pub next_key : (L : ℕ) (keys now new : List Point) (rs : List Ranked) (i : ℕ
     → now ≡ map ranked_point (take i rs) → p ≡ ranked_point (get_or rs i d) → new ≡ insert_key point_eq now p → new ≡ map ranked_point (take (i + 1) rs)
 next_key L keys now new rs i d p is low before at inserted =
     inserted ∙ ap₂ (insert_key point_eq) before at
-    ∙ rw (absent_next rs i d (ordered_once L keys rs is) low) (let e : suc i ≡ i + 1 = omega arith in sym (take_next ranked_point rs i d low) ∙ ap (λ n. map ranked_point (take n rs)) e)
+    ∙ rw (absent_next ranked_point rs i d (ordered_once L keys rs is) low) (let e : suc i ≡ i + 1 = omega arith in sym (take_next ranked_point rs i d low) ∙ ap (λ n. map ranked_point (take n rs)) e)
 
 -- the record of a centre has that centre
 fresh_centres : (ds : List Point) → map centre_of (map fresh_record ds) ≡ ds

@@ -5,5 +5,6 @@ pub mod AddingLaw
 pub mod ClosingLaw
 pub mod RankLaw
 pub mod GraphLaw
+pub mod FaultLaw
 pub mod CutBuilding
 mod WorkedClosures

@@ -1,20 +1,24 @@
 // Records in record order, and their places by centre.
-ghost use Rattle.std.specs.Prelude.{◌≡◌, ◌<◌, ◌≤◌, ◌^◌, Some, length, map, position, slice_get, All, IfOk};
+ghost use Rattle.std.specs.Prelude.{◌≡◌, ◌<◌, ◌≤◌, ◌^◌, ◌⊎◌, Some, None, length, map, position, slice_get, slice_set, All, IfOk, OnOk, IfErr, IfSome};
+ghost use Rattle.std.specs.List.{IsDistinct};
+ghost use Rattle.std.specs.Option.{ForSome};
 ghost use Rattle.tpz_base.specs.Lists.{in_order};
 ghost use Rattle.tpz_base.specs.Points.{point_eq};
 ghost use Rattle.tpz_base.specs.Cuts.{has_diamond};
 ghost use Rattle.tpz_base.specs.Diamonds.{record_lt};
 ghost use Rattle.tetra_name.specs.Names.{point_of, IsBound};
 ghost use Rattle.diamond_graph.specs.Adding.{IsKept};
-ghost use Rattle.diamond_graph.specs.Graphs.{centres, fresh_record, IsGraph};
+ghost use Rattle.diamond_graph.specs.Graphs.{centre_of, centres, counted_on, fresh_record, with_errors, IsStored, IsRecord, IsGraph};
+ghost use Rattle.diamond_graph.specs.Saturated.{first_fault, AreSaturated};
 
+use crate::fault::{GraphFault, find_not_closed, find_not_saturated, find_out_of_order};
 use crate::rank::in_record_order;
 use crate::record::{Record, fresh, key};
 use indexmap::IndexSet;
 use std::alloc::{AllocError, Global};
 use std::marker::Model;
 use tetra_name::Half;
-use tpz_base::Point;
+use tpz_base::{Cell, Point};
 
 /// Records of diamonds above the last level in record order: by level, then by centre. The parents of each are there.
 #[derive(Drop)]
@@ -53,6 +57,37 @@ impl Graph {
         'ranked: for r in &ranked {
             centres.insert(key(r.centre))?;
             records.push(fresh(r.centre))?;
+        }
+        Ok(Graph {
+            l,
+            records,
+            centres,
+            tests: 0,
+        })
+    }
+
+    /// The graph of these records, in a cube of 2^l whole units. An error names the first record that can't stand there: each kind of error is looked
+    /// for in all records before the next.
+    pub fn from_records(alloc: Global, l: u8, records: Vec<Record>) -> Result<Self, GraphFault>
+        requires bound { IsBound l }
+        requires few { length records.items < 2 ^ 32 }
+        requires stored { All (IsStored l) records.items }
+        ensures graph { IfOk result (λ graph. graph ≡ record { l = l; records = records.items; tests = 0 }) }
+        ensures right { OnOk result (first_fault l records.items ≡ None) }
+        ensures saturated { OnOk result (AreSaturated l records.items) }
+        ensures refused { IfErr result (λ fault. (fault ≡ GraphFault.Memory) ⊎ (first_fault l records.items ≡ Some fault)) }
+    {
+        if let Some(rec) = find_out_of_order(&records, l) {
+            return Err(GraphFault::Order { rec });
+        }
+        let Ok(centres) = index(alloc, &records) else {
+            return Err(GraphFault::Memory);
+        };
+        if let Some(rec) = find_not_closed(&records, &centres, l) {
+            return Err(GraphFault::NotClosed { rec });
+        }
+        if let Some(rec) = find_not_saturated(&records, &centres, l) {
+            return Err(GraphFault::NotSaturated { rec });
         }
         Ok(Graph {
             l,
@@ -104,4 +139,51 @@ impl Graph {
     {
         self.centres.contains(&key(centre))
     }
+
+    /// The record at a place, counted from 0. The count of tests rises by one; at the greatest number it stays.
+    pub fn record_at(&mut self, i: u32) -> Record
+        requires { i < length self.old.records }
+        ensures value { slice_get self.old.records i ≡ Some result }
+        ensures tests { self.new ≡ record { l = self.old.l; records = self.old.records; tests = counted_on self.old.tests } }
+        ensures graph { IsGraph self.old }
+    {
+        self.tests = self.tests.saturating_add(1);
+        self.records[i as usize]
+    }
+
+    /// How often a record was shown with its error and its box.
+    pub fn tests(&self) -> u64
+        ensures { result ≡ self.now.tests }
+    {
+        self.tests
+    }
+
+    /// Sets the errors and the box of the record at a place, counted from 0.
+    pub fn set_record(&mut self, i: u32, own: u32, err: u64, cell: Cell)
+        requires place { i < length self.old.records }
+        requires right { IfSome (slice_get self.old.records i) (λ r. IsRecord self.old.l (with_errors r own err cell)) }
+        ensures { ForSome (slice_get self.old.records i) (λ r.
+            self.new ≡ record { l = self.old.l; records = slice_set self.old.records i (with_errors r own err cell); tests = self.old.tests }) }
+    {
+        let place = i as usize;
+        let centre = self.records[place].centre;
+        self.records[place] = Record {
+            centre,
+            own,
+            err,
+            cell,
+        };
+    }
+}
+
+/// The records' centres.
+fn index(alloc: Global, records: &[Record]) -> Result<IndexSet<Point>, AllocError>
+    requires { IsDistinct point_eq (map centre_of records.now) }
+    ensures { IfOk result (λ centres. centres.keys ≡ map centre_of records.now) }
+{
+    let mut centres = IndexSet::new(alloc);
+    'records: for r in records {
+        centres.insert(key(r.centre))?;
+    }
+    Ok(centres)
 }

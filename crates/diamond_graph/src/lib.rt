@@ -6,12 +6,14 @@
 
 mod ancestors;
 mod closing;
+mod fault;
 mod graph;
 mod rank;
 mod record;
 
 pub use ancestors::ClosingFault;
 pub use closing::Closing;
+pub use fault::GraphFault;
 pub use graph::Graph;
 pub use record::Record;
 

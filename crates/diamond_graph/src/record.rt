@@ -1,7 +1,7 @@
 // Records of diamonds, and centres as points.
 ghost use Rattle.std.specs.Prelude.{◌≡◌};
 ghost use Rattle.tetra_name.specs.Names.{point_of};
-ghost use Rattle.diamond_graph.specs.Graphs.{fresh_record};
+ghost use Rattle.diamond_graph.specs.Graphs.{fresh_record, halved};
 
 use tetra_name::Half;
 use tpz_base::{Cell, Point};
@@ -40,22 +40,27 @@ pub(crate) fn centre(p: Point) -> Half
     }
 }
 
+/// The centre in whole units.
+#[inline]
+pub(crate) fn whole(c: Half) -> Point
+    ensures { result ≡ halved (point_of c) }
+{
+    Point {
+        x: c.x / 2,
+        y: c.y / 2,
+        z: c.z / 2,
+    }
+}
+
 /// The record of a diamond that nothing is known of: no error, and its centre as box.
 pub(crate) fn fresh(c: Half) -> Record
     ensures { result ≡ fresh_record (point_of c) }
 {
-    let whole = Point {
-        x: c.x / 2,
-        y: c.y / 2,
-        z: c.z / 2,
-    };
+    let at = whole(c);
     Record {
         centre: c,
         own: 0,
         err: 0,
-        cell: Cell {
-            lo: whole,
-            hi: whole,
-        },
+        cell: Cell { lo: at, hi: at },
     }
 }

@@ -1,11 +1,13 @@
-// Worked sets in two small cubes, and the ancestors of one of the deepest diamonds that can be split.
-ghost use Rattle.std.specs.Prelude.{◌≡◌};
+// Worked sets in two small cubes, the ancestors of one of the deepest diamonds that can be split, and graphs of records.
+ghost use Rattle.std.specs.Prelude.{◌≡◌, ◌+◌, length, All};
+ghost use Rattle.diamond_graph.specs.Graphs.{IsStored};
 
 use super::*;
 use std::alloc::{AllocError, Global};
 use std::process::Abort;
 use std::test::Fail;
 use tetra_name::{Half, is_centre, level, parents_of};
+use tpz_base::{Cell, Point};
 
 /// A centre in half-units.
 fn half(x: u32, y: u32, z: u32) -> Half {
@@ -136,5 +138,115 @@ fn the_deepest_diamond_brings_its_ancestors_of_every_level(rt: HostRuntime) -> R
     assert_eq!(rt; last, 89);
     assert_eq!(rt; graph.place(half(1 << 30, 1 << 30, 1 << 30)), Some(0));
     assert_eq!(rt; graph.place(deepest), Some(graph.len() - 1));
+    Ok(())
+}
+
+/// A record of the cube of side 4, with the box from a corner on the bottom to the far corner of this height.
+fn record(centre: Half, own: u32, err: u64, lo: u32, height: u32) -> Record {
+    Record {
+        centre,
+        own,
+        err,
+        cell: Cell {
+            lo: Point { x: lo, y: lo, z: 0 },
+            hi: Point {
+                x: 4,
+                y: 4,
+                z: height,
+            },
+        },
+    }
+}
+
+/// Adds a record that a test has made.
+fn push(rt: &impl Abort, records: &mut Vec<Record>, r: Record) -> Result<(), AllocError>
+    requires { All (IsStored 2) records.old.items }
+    ensures stored { All (IsStored 2) records.new.items }
+    ensures more { length records.new.items ≤ length records.old.items + 1 }
+{
+    assert!(rt; is_centre(r.centre, 2));
+    assert!(rt; level(r.centre, 2) < 6);
+    assert!(rt; r.own <= 1 << 30 && r.err <= 1 << 30);
+    assert!(rt;
+        r.cell.lo.x <= r.cell.hi.x && r.cell.lo.y <= r.cell.hi.y && r.cell.lo.z <= r.cell.hi.z
+    );
+    assert!(rt; r.cell.hi.x <= 4 && r.cell.hi.y <= 4 && r.cell.hi.z <= 4);
+    records.push(r)?;
+    Ok(())
+}
+
+/// The graph of two records in the cube of side 4.
+fn graph_of(
+    rt: &impl Abort,
+    alloc: Global,
+    first: Record,
+    second: Record,
+) -> Result<Result<Graph, GraphFault>, AllocError> {
+    let mut records = Vec::new(alloc);
+    push(rt, &mut records, first)?;
+    push(rt, &mut records, second)?;
+    Ok(Graph::from_records(alloc, 2, records))
+}
+
+/// The graph of the worked square, whose second record is this.
+fn check_square(rt: &impl Abort, mut graph: Graph, second: Record) {
+    assert_eq!(rt; graph.l(), 2);
+    check_places(rt, &graph);
+    assert_eq!(rt; graph.tests(), 0);
+    assert!(rt; graph.len() == 2);
+    assert_eq!(rt; graph.record_at(1), second);
+    assert_eq!(rt; graph.tests(), 1);
+}
+
+#[test]
+fn records_of_the_worked_square_make_a_graph(rt: HostRuntime) -> Result<(), Fail> {
+    let top = record(half(4, 4, 4), 0, 2, 0, 2);
+    let bottom = record(half(4, 4, 0), 2, 2, 0, 0);
+    match graph_of(&rt, rt.alloc(), top, bottom)? {
+        Ok(graph) => check_square(&rt, graph, bottom),
+        Err(_) => assert!(rt; false),
+    }
+    Ok(())
+}
+
+#[test]
+fn the_first_record_that_cannot_stand_is_named(rt: HostRuntime) -> Result<(), Fail> {
+    let top = record(half(4, 4, 4), 0, 2, 0, 2);
+    let bottom = record(half(4, 4, 0), 2, 2, 0, 0);
+    let rows = [
+        (bottom, top, GraphFault::Order { rec: 1 }),
+        (top, top, GraphFault::Order { rec: 1 }),
+        (
+            record(half(4, 0, 4), 2, 2, 0, 2),
+            bottom,
+            GraphFault::NotClosed { rec: 0 },
+        ),
+        (
+            record(half(4, 4, 4), 0, 1, 0, 2),
+            bottom,
+            GraphFault::NotSaturated { rec: 0 },
+        ),
+        (
+            record(half(4, 4, 4), 0, 2, 1, 2),
+            bottom,
+            GraphFault::NotSaturated { rec: 0 },
+        ),
+        (
+            record(half(4, 4, 4), 0, 2, 0, 1),
+            bottom,
+            GraphFault::NotSaturated { rec: 0 },
+        ),
+        (
+            record(half(4, 4, 4), 0, 3, 0, 2),
+            record(half(4, 4, 0), 2, 3, 0, 0),
+            GraphFault::NotSaturated { rec: 1 },
+        ),
+    ];
+    for (first, second, fault) in rows {
+        match graph_of(&rt, rt.alloc(), first, second)? {
+            Ok(_) => assert!(rt; false),
+            Err(found) => assert_eq!(rt; found, fault),
+        }
+    }
     Ok(())
 }
