@@ -740,6 +740,7 @@ fn each_status_has_its_code_and_line(rt: HostRuntime) -> Result<(), Fail> {
         ),
         (Status::OutFault, 14, "tpz: output failed"),
         (Status::Memory, 16, "tpz: out of memory"),
+        (Status::TooManyRecords, 22, "tpz: too many records"),
     ];
     for (status, code, line) in rows {
         assert_eq!(rt; status.code(), code, "at {status:?}");
