@@ -1,15 +1,15 @@
 -- What one entry that changes, or one more at the end, does to lists by place.
-use Rattle.std.proofs.Common.{◌≡◌, ◌≢◌, ℕ, ◌<◌, ◌≤◌, ◌+◌, ◌++◌, ◌∷◌, [], List, Option, Some, None, length, map, arith, sym, ◌∙◌, ap, subst, inl, inr, refl, get_or}
+use Rattle.std.proofs.Common.{◌≡◌, ℕ, ◌<◌, ◌≤◌, ◌+◌, ◌++◌, ◌∷◌, [], List, Option, Some, None, length, arith, sym, ◌∙◌, subst, inl, inr, get_or}
 use Rattle.std.proofs.Math.ListN.{set}
 use Rattle.std.proofs.Math.Seq.{get_or-append_seam, map-set_same}
-use Rattle.std.proofs.lemmas.List.{map-set, get_or-set_same, get_or-set_other, get_or_append_left, get_or-append_right, get_or_past, get_or-map, length-append, length-map, map-append}
+use Rattle.std.proofs.lemmas.List.{map-set, get_or-set_same, get_or-set_other, get_or_append_left, get_or_past, get_or-map, length-append, length-map, map-append}
 use Rattle.std.proofs.lemmas.List.Sums.{sum_by-set, sum_by-append}
 use Rattle.std.proofs.lemmas.Bool.{cases_lt}
 use Rattle.std.specs.Option.{ForSome}
 use Rattle.tpz_base.specs.declared.shape.Tri.{Tri}
 use Rattle.tpz_base.specs.Meshes.{Mesh}
 use Rattle.tri_stream.specs.declared.table.Slot.{Slot}
-use Rattle.tri_stream.specs.Lists.{list_at, size, size_of_all, Puts}
+use Rattle.tri_stream.specs.Lists.{list_at, size, Puts}
 use Rattle.tri_stream.specs.Slots.{list_in, lists_in}
 
 puts_set : (xs : List (Option Mesh)) (i : ℕ) (e : Option Mesh) → i < length xs → Puts xs (set xs i e) i e

@@ -1,5 +1,5 @@
 -- What the words on streams say where the entry of one name changes, and all others stay.
-use Rattle.std.proofs.Common.{◌≡◌, ◌≢◌, ℕ, ◌<◌, ◌≤◌, ◌+◌, ◌++◌, ◌∷◌, [], List, Option, Some, None, length, arith, rules, sym, ◌∙◌, ap, subst, inl, inr, refl}
+use Rattle.std.proofs.Common.{◌≡◌, ◌≢◌, ℕ, ◌<◌, ◌≤◌, ◌+◌, ◌++◌, ◌∷◌, [], List, Option, Some, None, length, arith, sym, ◌∙◌, ap, subst, inl, inr, refl}
 use Rattle.std.specs.Prelude.{IsSome, IfSome, All, take, slice_get, is_some, true, IsTrue}
 use Rattle.std.proofs.lemmas.Option.{slice_get_cases, slice_get_past}
 use Rattle.std.specs.Option.{ForSome, option_map, unwrap_or}
@@ -10,10 +10,9 @@ use Rattle.std.proofs.lemmas.List.Sums.{get_or-le-sum_by}
 use Rattle.tpz_base.specs.declared.shape.Tri.{Tri}
 use Rattle.tpz_base.specs.Meshes.{Mesh, is_whole}
 use Rattle.tri_stream.specs.Cubes.{IsTriInCube}
-use Rattle.tpz_io.specs.Told.{Changes}
 use Rattle.tri_stream.specs.declared.names.StreamId.{StreamId}
 use Rattle.tri_stream.specs.declared.names.Cursor.{Cursor}
-use Rattle.tri_stream.specs.Lists.{list_at, size, size_of_all, Puts, IsHeld, AllHeld}
+use Rattle.tri_stream.specs.Lists.{list_at, size, Puts, IsHeld, AllHeld}
 use Rattle.tri_stream.proofs.Places.{list_past}
 use Rattle.tri_stream.specs.Streams.{StreamsState, count_of, list_of, told_list, total, Follows, IsLive, Keeps, LeavesAll, LeavesOthers, Stands}
 

@@ -1,8 +1,8 @@
 -- Lists of triangles by place, some places free.
-use Rattle.std.specs.Prelude.{◌≡◌, ◌≢◌, ℕ, ◌+◌, List, length, map, sum_by, true, All, Option}
+use Rattle.std.specs.Prelude.{◌≡◌, ◌≢◌, ℕ, ◌+◌, List, length, sum_by, true, All, Option}
 use Rattle.std.specs.Option.{option_map_or, ForSome}
 use Rattle.std.specs.List.{slice_index_or}
-use Rattle.std.specs.declared.option.Option.TheVariants.{None, Some}
+use Rattle.std.specs.declared.option.Option.TheVariants.{None}
 use Rattle.tpz_base.specs.declared.shape.Tri.{Tri}
 use Rattle.tpz_base.specs.Meshes.{Mesh, is_whole}
 use Rattle.tri_stream.specs.Cubes.{IsTriInCube}

@@ -1,5 +1,5 @@
 -- Named streams of triangles: which names are live, how many triangles each stream has, and its list.
-use Rattle.std.specs.Prelude.{◌≡◌, ◌≢◌, ◌≤◌, ℕ, ◌+◌, List, [], length, take, Option, IsSome}
+use Rattle.std.specs.Prelude.{◌≡◌, ◌≢◌, ◌≤◌, ℕ, List, [], length, take, Option, IsSome}
 use Rattle.std.specs.Option.{ForSome, option_map, unwrap_or}
 use Rattle.std.specs.declared.option.Option.TheVariants.{Some}
 use Rattle.tpz_base.specs.Meshes.{Mesh}

@@ -1,8 +1,7 @@
 -- The search has found what is split, and the triangles of each leaf are in its stream.
-use Rattle.std.proofs.Common.{◌≡◌, ◌≤◌, ◌<◌, ◌∙◌, ℕ, List, Err, Some, length, sym, ap, subst}
+use Rattle.std.proofs.Common.{◌≤◌, ◌<◌, ◌∙◌, ℕ, List, Err, length, sym, ap, subst}
 use Rattle.std.proofs.lemmas.Result.{err_from_is_err_and}
 use Rattle.tpz_base.specs.declared.shape.Point.{Point}
-use Rattle.tpz_base.specs.Meshes.{Mesh}
 use Rattle.diamond_graph.specs.Adding.{most_centres}
 use Rattle.diamond_graph.specs.Graphs.{centres, GraphState}
 use Rattle.assign.specs.Splits.{split_set}

@@ -1,5 +1,4 @@
 -- The slot that was written has the list of the one before it, with the triangle behind.
-use Rattle.std.proofs.Common.{rules}
 use Rattle.std.proofs.lemmas.Result.{on_ok_weaker}
 use Rattle.tri_stream.proofs.Places.{slot_pushed}
 use Rattle.tri_stream.proofs.table.push_at.Goals as goal

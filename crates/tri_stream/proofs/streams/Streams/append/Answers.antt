@@ -1,7 +1,6 @@
 -- The list that gets the triangle is the only one that changes.
-use Rattle.std.proofs.Common.{◌≡◌, Some, [], ◌∷◌, ◌++◌, length, arith, refl}
-use Rattle.tri_stream.specs.Lists.{list_at, Puts, IsHeld}
-use Rattle.tri_stream.proofs.Words.{keeps, leaves_all, live_list, others, pushed, pushed_count, pushed_cursors, pushed_held, pushed_list, pushed_live, pushed_total, state, Pushed}
+use Rattle.std.proofs.Common.{Some, [], ◌∷◌, ◌++◌}
+use Rattle.tri_stream.proofs.Words.{keeps, live_list, others, pushed, pushed_count, pushed_cursors, pushed_held, pushed_list, pushed_live, pushed_total, state}
 use Rattle.tri_stream.proofs.streams.Streams.append.Goals as goal
 use Rattle.tri_stream.proofs.streams.Streams.append.Goals.{in-Ok, in-Err}
 

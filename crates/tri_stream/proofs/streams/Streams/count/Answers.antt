@@ -1,5 +1,5 @@
 -- The length of a stream's list is its count.
-use Rattle.std.proofs.Common.{◌≡◌, Some, length, refl}
+use Rattle.std.proofs.Common.{refl}
 use Rattle.tri_stream.specs.Lists.{list_at}
 use Rattle.tri_stream.proofs.Words.{counted, listed, list_le, live_list, state, with_list}
 use Rattle.tri_stream.proofs.streams.Streams.count.Goals as goal

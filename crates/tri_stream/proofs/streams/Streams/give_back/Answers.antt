@@ -1,6 +1,5 @@
 -- The entry that is freed is the only one that changes.
-use Rattle.std.proofs.Common.{◌≡◌, ◌≤◌, ◌+◌, Some, None, length, arith, refl}
-use Rattle.tri_stream.specs.Lists.{list_at}
+use Rattle.std.proofs.Common.{None}
 use Rattle.tri_stream.proofs.Words.{given_back, held_put, keeps, live_list, none_held, others, state, uncounted}
 use Rattle.tri_stream.proofs.streams.Streams.give_back.Goals as goal
 

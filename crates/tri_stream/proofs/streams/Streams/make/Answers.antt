@@ -1,7 +1,6 @@
 -- The new entry is the only one that changes, and holds no triangle.
-use Rattle.std.proofs.Common.{◌≡◌, Some, [], length, arith}
+use Rattle.std.proofs.Common.{Some, []}
 use Rattle.tri_stream.specs.declared.names.StreamId.{StreamId}
-use Rattle.tri_stream.specs.Lists.{size, list_at}
 use Rattle.tri_stream.proofs.Words.{counted, empty_held, held_put, listed, made_total, others, stands, state, uncounted}
 use Rattle.tri_stream.proofs.streams.Streams.make.Goals as goal
 

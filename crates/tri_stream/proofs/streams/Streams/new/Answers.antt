@@ -1,5 +1,4 @@
 -- With no list no name is live.
-use Rattle.std.proofs.Common.{rules}
 use Rattle.tri_stream.proofs.Words.{all_none, stands, state, total_none}
 use Rattle.tri_stream.proofs.streams.Streams.new.Goals as goal
 

@@ -1,11 +1,7 @@
 -- What is given is the triangle of the list that the cursor has come to.
-use Rattle.std.proofs.Common.{◌≡◌, ◌+◌, Some, None, length, arith, refl, sym, ◌∙◌, ap, subst, true}
-use Rattle.std.specs.Prelude.{slice_get, is_some, IfSome, IsTrue}
-use Rattle.tpz_base.specs.declared.shape.Tri.{Tri}
-use Rattle.tpz_base.specs.Meshes.{Mesh, is_whole}
-use Rattle.tri_stream.specs.Cubes.{IsTriInCube}
-use Rattle.tri_stream.specs.Lists.{list_at, IsHeld}
-use Rattle.tri_stream.proofs.Words.{counted, given_cube, given_end, given_held, given_more, given_none, given_whole, gone_on, reading, reading_there, state, told_reads}
+use Rattle.std.proofs.Common.{◌+◌, Some, arith, sym, ◌∙◌, ap}
+use Rattle.std.specs.Prelude.{slice_get, is_some}
+use Rattle.tri_stream.proofs.Words.{counted, given_cube, given_end, given_more, given_none, given_whole, gone_on, reading, reading_there, state, told_reads}
 use Rattle.tri_stream.proofs.streams.Streams.read.Goals as goal
 use Rattle.tri_stream.proofs.streams.Streams.read.Goals.{then-is_some, else-is_some}
 
