@@ -1,8 +1,8 @@
 -- The diamonds that a search from the roots adds are those that are crowded.
-use Rattle.std.proofs.Common.{◌≡◌, ◌≢◌, ℕ, zero, suc, ◌+◌, ◌-◌, ◌*◌, ◌∷◌, ◌<◌, ◌≤◌, [], List, Bool, true, false, cond, refl, sym, ◌∙◌, ap, ap₂, subst, inl, inr, ◌⊎◌, arith, length, true≢false, leb}
-use Rattle.std.specs.Prelude.{nat_lt, not, ◌&&◌, ◌||◌, ◌==◌, filter, flat_map, map, take, count_by}
+use Rattle.std.proofs.Common.{◌≡◌, ℕ, zero, suc, ◌+◌, ◌-◌, ◌*◌, ◌∷◌, ◌<◌, ◌≤◌, [], List, Bool, true, false, cond, refl, sym, ◌∙◌, ap, ap₂, subst, inl, inr, ◌⊎◌, arith, length, true≢false}
+use Rattle.std.specs.Prelude.{nat_lt, not, ◌&&◌, ◌==◌, filter, flat_map, map, take}
 use Rattle.std.specs.List.{slice_index_or}
-use Rattle.std.proofs.lemmas.Bool.{cases_Bool, or_cases, or_left, or_right, ltb-true, lt-ltb, eq-eqb, eqb-true, cases_lt, false_from_ne_true}
+use Rattle.std.proofs.lemmas.Bool.{cases_Bool, or_cases, or_left, ltb-true, lt-ltb, eq-eqb, eqb-true, cases_lt}
 use Rattle.std.proofs.lemmas.List.Elements.{filter_agree}
 use Rattle.tpz_base.specs.declared.shape.Point.{Point}
 use Rattle.tpz_base.specs.declared.shape.Tri.{Tri}
@@ -10,7 +10,7 @@ use Rattle.tpz_base.specs.Lists.{has}
 use Rattle.tpz_base.specs.Points.{point_eq}
 use Rattle.tpz_base.specs.Meshes.{Mesh}
 use Rattle.tpz_base.specs.Cuts.{has_diamond}
-use Rattle.tpz_base.specs.Roots.{corner_sum, is_in_root, root_of, root_part, root_slot}
+use Rattle.tpz_base.specs.Roots.{corner_sum, is_in_root, root_part, root_slot}
 use Rattle.tpz_base.specs.Tetrahedra.{Tetrahedron, at_level, child_0, child_1, children, diamond, roots, tetrahedron_eq}
 use Rattle.tpz_base.proofs.CutLaw.{Member}
 use Rattle.tpz_base.proofs.Distinct.{member-flat_map}

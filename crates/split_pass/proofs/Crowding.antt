@@ -1,6 +1,6 @@
 -- The closure of diamonds that are added one after another, and the diamonds that a division adds.
-use Rattle.std.proofs.Common.{◌≡◌, ◌≢◌, ℕ, zero, suc, ◌+◌, ◌-◌, ◌*◌, ◌∷◌, ◌<◌, ◌≤◌, [], List, Option, Some, None, Err, Result, Bool, true, false, cond, refl, sym, ◌∙◌, ap, subst, inl, inr, ◌⊎◌, arith, length}
-use Rattle.std.specs.Prelude.{nat_lt, ◌||◌, slice_get}
+use Rattle.std.proofs.Common.{◌≡◌, ◌≢◌, ℕ, zero, suc, ◌+◌, ◌-◌, ◌*◌, ◌∷◌, ◌<◌, ◌≤◌, [], List, Option, Some, None, Err, Result, true, false, refl, sym, ◌∙◌, ap, subst, inl, inr, ◌⊎◌, arith, length}
+use Rattle.std.specs.Prelude.{nat_lt, slice_get}
 use Rattle.std.specs.Option.{ForSome, option_map}
 use Rattle.std.proofs.lemmas.Bool.{ltb-true, lt-ltb, cases_Bool, or_cases, or_left, or_right}
 use Rattle.tpz_base.specs.declared.shape.Point.{Point}
@@ -17,10 +17,10 @@ use Rattle.tetra_name.specs.declared.shape.Tet.{Tet}
 use Rattle.tetra_name.specs.Names.{child_of, point_of, root_at, tetrahedron_of}
 use Rattle.diamond_graph.specs.Adding.{most_centres}
 use Rattle.tri_stream.specs.declared.names.StreamId.{StreamId}
-use Rattle.tri_stream.specs.Streams.{StreamsState, count_of, list_of, told_list, total, IsLive, Stands}
-use Rattle.split_pass.specs.Moves.{size_of, Divides, Ends}
+use Rattle.tri_stream.specs.Streams.{StreamsState, count_of, list_of, told_list, IsLive, Stands}
+use Rattle.split_pass.specs.Moves.{Divides, Ends}
 use Rattle.split_pass.proofs.Moving.{live_differs, same_name, same_size}
-use Rattle.diamond_graph.specs.Closed.{closure, IsConforming, IsPartOf}
+use Rattle.diamond_graph.specs.Closed.{closure, IsPartOf}
 use Rattle.diamond_graph.proofs.ClosureLaw.{closure_ascends, closure_closed, closure_holds, closure_least}
 use Rattle.diamond_graph.proofs.SetLaw.{both_ways, closure-once, fewer, record_order_same}
 use Rattle.diamond_graph.specs.declared.ancestors.ClosingFault.{ClosingFault}
@@ -97,15 +97,6 @@ with_kept (suc n) cap T M V =
           (with_kept n cap (child_0 T) (first_part T M) (diamond T ∷ V) d (or_right (point_eq (diamond T) d) (has_diamond V d) h)))
       | inr e ↦ rw e (λ d h. h)
     ]
-
--- What a search below a tetrahedron does to the set: `told` is what is told of its triangles.
-abbrev pub Finds : ℕ → ℕ → ℕ → Option Tetrahedron → Option Mesh → List Point → List Point → Type 0
-Finds L n cap o told W W' =
-    ForSome o (λ T. ForSome told (λ M. (V : List Point) → W ≡ closure L V → W' ≡ closure L (with_crowded n cap T M V)))
-
-abbrev pub IsTooMany : ℕ → ℕ → ℕ → Option Tetrahedron → Option Mesh → List Point → Type 0
-IsTooMany L n cap o told W =
-    ForSome o (λ T. ForSome told (λ M. (V : List Point) → W ≡ closure L V → most_centres < length (closure L (with_crowded n cap T M V))))
 
 -- the diamond itself is too much
 pub too_many_here : (L n cap : ℕ) (T : Tetrahedron) (M : Mesh) (V W : List Point) (d : Point) → W ≡ closure L V → d ≡ diamond T → cap < length M → 0 < n

@@ -1,6 +1,6 @@
 -- A triangle goes to one of the two children.
-use Rattle.std.proofs.Common.{◌≡◌, ◌≢◌, ℕ, ◌++◌, ◌∷◌, [], List, Option, Some, None, Bool, true, false, refl, sym, ◌∙◌, ap, subst, inl, inr, ◌⊎◌, arith, append-nil, cond, get_or, length, ◌+◌, ◌≤◌}
-use Rattle.std.specs.Prelude.{not, filter, IfSome, slice_get, take}
+use Rattle.std.proofs.Common.{◌≡◌, ◌≢◌, ℕ, ◌++◌, ◌∷◌, [], Option, Some, None, Bool, true, false, refl, sym, ◌∙◌, ap, subst, inl, inr, arith, append-nil, cond, get_or, length, ◌+◌, ◌≤◌}
+use Rattle.std.specs.Prelude.{filter, IfSome, slice_get, take}
 use Rattle.std.proofs.lemmas.Option.{slice_get_cases, slice_get_within, get_or_from_slice_get}
 use Rattle.std.proofs.lemmas.List.{take_more, take_all, append_assoc}
 use Rattle.std.proofs.lemmas.List.Elements.{filter-append}

@@ -1,12 +1,12 @@
 -- Streams that are made, filled and ended, one step after another.
-use Rattle.std.proofs.Common.{◌≡◌, ◌≢◌, ℕ, ◌+◌, ◌++◌, ◌∷◌, ◌≤◌, [], List, Option, Some, None, Ok, Err, Result, refl, sym, ◌∙◌, ap, subst, inl, inr, ◌⊎◌, arith}
+use Rattle.std.proofs.Common.{◌≡◌, ◌≢◌, ℕ, ◌++◌, [], List, Option, Some, None, Ok, Err, Result, refl, sym, ◌∙◌, ap, subst, inl, inr, ◌⊎◌, arith}
 use Rattle.std.specs.Prelude.{IsSome, OnErr, OnOk}
 use Rattle.std.specs.Option.{ForSome, option_map, unwrap_or}
 use Rattle.std.proofs.lemmas.Bool.{cases_lt}
 use Rattle.tpz_base.specs.Meshes.{Mesh}
 use Rattle.tri_stream.specs.declared.names.StreamId.{StreamId}
 use Rattle.tri_stream.specs.Streams.{StreamsState, count_of, list_of, told_list, total, IsLive, LeavesAll, LeavesOthers, Stands}
-use Rattle.split_pass.specs.Moves.{size_of, Divides, Ends, LeavesAllBut, MakesTwo, Stays}
+use Rattle.split_pass.specs.Moves.{size_of, MakesTwo}
 
 -- What `make` says.
 pub record Makes (id : StreamId) (old new : StreamsState) : Type 0 where
@@ -59,20 +59,6 @@ made_two a b s0 s1 s2 m n =
       l = n.l ∙ m.l;
     }
 
--- What moving all triangles of a stream into two others says.
-pub record Sends (id a b : StreamId) (old new : StreamsState) (before now : Option (List ℕ)) : Type 0 where
-  pub live_first : IsLive new a
-  pub live_second : IsLive new b
-  pub sizes : size_of new a + size_of new b ≡ size_of old a + size_of old b + size_of old id
-  pub others : LeavesAllBut a b old new before now
-  pub total : total new ≡ total old + size_of old id
-
--- What `give_back` says.
-pub record GivesBack (id : StreamId) (old new : StreamsState) (before now : Option (List ℕ)) : Type 0 where
-  pub ended : count_of new id ≡ None
-  pub others : LeavesOthers id old new before now
-  pub total : ForSome (count_of old id) (λ n. total new + n ≡ total old)
-
 size : (s : StreamsState) (x : StreamId) (n : ℕ) → count_of s x ≡ Some n → size_of s x ≡ n
 size s x n is = ap (λ o. unwrap_or o 0) is
 
@@ -85,41 +71,6 @@ given (Some n) h = (n, refl)
 
 pub live_size : (s : StreamsState) (x : StreamId) → IsLive s x → count_of s x ≡ Some (size_of s x)
 live_size s x live = let g = given (count_of s x) live in g.1 ∙ sym (ap Some (size s x g.0 g.1))
-
-pub divided : (id a b : StreamId) (s0 s1 s2 s3 : StreamsState) (h0 h2 h3 : Option (List ℕ)) → IsLive s0 id → ForSome h0 (Stands s0) → MakesTwo a b s0 s1
-    → Sends id a b s1 s2 h0 h2 → GivesBack id s2 s3 h2 h3 → Divides id a b s0 s3 h0 h3
-divided id a b s0 s1 s2 s3 h0 h2 h3 live stands m n g =
-    let id_a = live_differs s0 id a live m.fresh_first in
-    let id_b = live_differs s0 id b live m.fresh_second in
-    let a_id : a ≢ id = λ same. id_a (sym same) in
-    let b_id : b ≢ id = λ same. id_b (sym same) in
-    let count_1 : count_of s1 id ≡ count_of s0 id = m.counts id id_a id_b in
-    let count_2 : count_of s2 id ≡ count_of s0 id = n.others.counts id id_a id_b ∙ count_1 in
-    let size_1 = same_size s0 s1 id count_1 in
-    let size_a = size s1 a 0 m.count_first in
-    let size_b = size s1 b 0 m.count_second in
-    let count_a = g.others.counts a a_id in
-    let count_b = g.others.counts b b_id in
-    let size_a' = same_size s2 s3 a count_a in
-    let size_b' = same_size s2 s3 b count_b in
-    let last = g.total (size_of s0 id) (count_2 ∙ live_size s0 id live) in
-    let sent = n.sizes in
-    let more = n.total in
-    let made = m.total in
-    record {
-      fresh_first = m.fresh_first;
-      fresh_second = m.fresh_second;
-      apart = m.apart;
-      live_first = rw count_a n.live_first;
-      live_second = rw count_b n.live_second;
-      sizes = omega arith;
-      ended = g.ended;
-      counts = λ x x_id x_a x_b. g.others.counts x x_id ∙ n.others.counts x x_a x_b ∙ m.counts x x_a x_b;
-      lists = λ x x_id x_live.
-          (let x_a = live_differs s0 x a x_live m.fresh_first in
-          let x_b = live_differs s0 x b x_live m.fresh_second in g.others.lists x x_id ∙ n.others.lists x x_a x_b ∙ m.lists h0 stands x x_a x_b);
-      total = omega arith;
-    }
 
 -- the list of a stream that was made empty and filled
 pub filled : (s1 : StreamsState) (x : StreamId) (h : Option (List ℕ)) (M more : Mesh) (o : Option Mesh) → ((bytes : List ℕ) → h ≡ Some bytes → list_of s1 bytes x ≡ [])

@@ -1,5 +1,5 @@
 -- A name that is set in a table of leaves, and a triangle that is put into the stream of its leaf.
-use Rattle.std.proofs.Common.{◌≡◌, ◌≢◌, ◌⊎◌, Bool, true, false, cond, ◌+◌, ◌++◌, ◌∷◌, Some, None, Option, ℕ, List, [], refl, sym, ◌∙◌, ap, subst, inl, inr, true≢false, arith}
+use Rattle.std.proofs.Common.{◌≡◌, ◌≢◌, ◌⊎◌, true, cond, ◌+◌, ◌++◌, ◌∷◌, Some, None, Option, ℕ, List, [], refl, sym, ◌∙◌, ap, subst, inl, inr, true≢false, arith}
 use Rattle.std.specs.Prelude.{is_some}
 use Rattle.std.specs.Option.{ForSome, option_map, unwrap_or}
 use Rattle.std.specs.Ordering.{eq_by_cmp}
@@ -14,7 +14,6 @@ use Rattle.assign.specs.Names.{tet_cmp, LeafTable}
 use Rattle.assign.proofs.TableLaw.{tet_cmp_same, tet_cmp_total}
 use Rattle.tpz_base.specs.declared.shape.Point.{Point}
 use Rattle.tpz_base.specs.declared.shape.Tri.{Tri}
-use Rattle.tpz_base.specs.Meshes.{Mesh}
 use Rattle.tpz_base.specs.Tetrahedra.{Tetrahedron}
 use Rattle.tetra_name.specs.Names.{tetrahedron_of}
 use Rattle.tri_stream.specs.declared.names.Cursor.{Cursor}

@@ -1,7 +1,7 @@
 -- The leaf of a triangle is a leaf, and the streams of the leaves hold the triangles that were placed.
-use Rattle.std.proofs.Common.{◌≡◌, ◌≢◌, ◌⊎◌, ◌+◌, ◌*◌, ◌++◌, ◌∷◌, ◌≤◌, ◌<◌, Bool, true, false, cond, Some, None, Option, Err, Result, ℕ, zero, suc, List, [], refl, sym, ◌∙◌, ap, subst, inl, inr, true≢false, arith, length, map, append-nil, get_or}
+use Rattle.std.proofs.Common.{◌≡◌, ◌≢◌, ◌⊎◌, ◌+◌, ◌*◌, ◌++◌, ◌∷◌, ◌≤◌, ◌<◌, Bool, true, false, cond, Some, None, Option, Err, Result, ℕ, zero, suc, List, [], refl, sym, ◌∙◌, ap, subst, inl, inr, true≢false, arith, map, append-nil}
 use Rattle.std.specs.Prelude.{is_some, not, filter, find, slice_get, take, ◌↔◌, Contains, IsSome}
-use Rattle.std.specs.Option.{ForSome, option_map, option_map_or}
+use Rattle.std.specs.Option.{option_map, option_map_or}
 use Rattle.std.specs.FinMap.{get, empty, get-empty}
 use Rattle.std.proofs.lemmas.Bool.{cases_Bool, cases_lt, false_from_ne_true}
 use Rattle.std.proofs.lemmas.List.{take_all, take_more}
@@ -11,9 +11,7 @@ use Rattle.tpz_base.specs.declared.shape.Point.{Point}
 use Rattle.tpz_base.specs.declared.shape.Tri.{Tri}
 use Rattle.tpz_base.specs.Meshes.{Mesh}
 use Rattle.tpz_base.specs.Cuts.{has_diamond}
-use Rattle.tpz_base.specs.Roots.{root_of}
-use Rattle.tpz_base.specs.Tetrahedra.{Tetrahedron, at_level, children, descendants, diamond, roots, tetrahedron_eq}
-use Rattle.tpz_base.proofs.CutLaw.{Member}
+use Rattle.tpz_base.specs.Tetrahedra.{Tetrahedron, children, descendants, diamond, roots, tetrahedron_eq}
 use Rattle.tpz_base.proofs.Diamonds.{in_levels}
 use Rattle.tpz_base.proofs.Members.{tetrahedron_eq-true, tetrahedron_eq_refl}
 use Rattle.tetra_name.specs.declared.shape.Tet.{Tet}
@@ -21,7 +19,7 @@ use Rattle.tetra_name.specs.Names.{tetrahedron_of, IsName, NamesEach}
 use Rattle.tetra_name.proofs.NameFacts.{member-contains}
 use Rattle.tri_stream.specs.declared.names.StreamId.{StreamId}
 use Rattle.diamond_graph.specs.Graphs.{centre_of, fresh_record}
-use Rattle.tri_stream.specs.Streams.{StreamsState, count_of, list_of, told_list, IsLive, LeavesAll, LeavesOthers, Stands}
+use Rattle.tri_stream.specs.Streams.{StreamsState, count_of, list_of, told_list, IsLive, LeavesAll, LeavesOthers}
 use Rattle.assign.specs.Paths.{entered, path, path_below}
 use Rattle.assign.specs.Leaf.{leaf, leaf_patch}
 use Rattle.assign.specs.Names.{tet_cmp, LeafTable}

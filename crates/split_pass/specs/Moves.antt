@@ -1,5 +1,5 @@
 -- What moving triangles between streams changes.
-use Rattle.std.specs.Prelude.{◌≡◌, ◌≢◌, ◌≤◌, ◌⊎◌, ℕ, ◌+◌, ◌∷◌, ◌++◌, List, [], Option, is_some, if◌then◌else◌}
+use Rattle.std.specs.Prelude.{◌≡◌, ◌≢◌, ◌⊎◌, ℕ, ◌+◌, ◌∷◌, ◌++◌, List, [], Option, is_some, if◌then◌else◌}
 use Rattle.std.specs.FinMap.{get}
 use Rattle.tetra_name.specs.declared.shape.Tet.{Tet}
 use Rattle.assign.specs.Names.{LeafTable}

@@ -1,6 +1,6 @@
 -- The two streams were made without triangles, and then got those of the tetrahedron's.
-use Rattle.std.proofs.Common.{◌≡◌, ◌∙◌, sym}
-use Rattle.tri_stream.specs.Streams.{count_of, told_list}
+use Rattle.std.proofs.Common.{◌∙◌, sym}
+use Rattle.tri_stream.specs.Streams.{told_list}
 use Rattle.split_pass.specs.Crowds.{first_part, second_part}
 use Rattle.split_pass.proofs.Moving.{filled, live_differs, told_bytes}
 use Rattle.split_pass.proofs.divide.divide.Goals as goal

@@ -1,8 +1,6 @@
 -- The child that the triangle goes to gets it, and the other one stays.
-use Rattle.std.proofs.Common.{◌≡◌, ◌++◌, ◌∷◌, [], ◌∙◌, sym, ap, refl}
-use Rattle.std.specs.Option.{option_map}
+use Rattle.std.proofs.Common.{◌≡◌, ◌∷◌, [], ◌∙◌, sym}
 use Rattle.std.proofs.lemmas.Result.{on_ok_weaker}
-use Rattle.tpz_base.specs.Meshes.{Mesh}
 use Rattle.tetra_name.specs.Names.{tetrahedron_of}
 use Rattle.assign.specs.Paths.{side_of}
 use Rattle.tri_stream.specs.Streams.{told_list}

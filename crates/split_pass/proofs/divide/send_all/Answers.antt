@@ -1,12 +1,11 @@
 -- Each triangle that is read goes to its child.
-use Rattle.std.proofs.Common.{◌≡◌, ◌≤◌, ◌<◌, ◌+◌, ◌++◌, ◌∷◌, [], ◌∙◌, ℕ, Some, None, Bool, arith, rules, sym, ap, refl}
+use Rattle.std.proofs.Common.{◌≡◌, ◌+◌, ◌∙◌, Some, None, arith, sym, ap}
 use Rattle.std.proofs.lemmas.Grind.{common_steps}
-use Rattle.std.specs.Prelude.{not, slice_get, take}
-use Rattle.std.specs.Option.{option_map, unwrap_or}
+use Rattle.std.specs.Prelude.{not, slice_get}
+use Rattle.std.specs.Option.{unwrap_or}
 use Rattle.tpz_base.specs.declared.shape.Tri.{Tri}
 use Rattle.assign.specs.Paths.{is_beyond}
-use Rattle.tri_stream.specs.Streams.{told_list, total, count_of}
-use Rattle.split_pass.specs.Moves.{size_of}
+use Rattle.tri_stream.specs.Streams.{told_list}
 use Rattle.split_pass.proofs.Dividing.{all_gone, more_gone}
 use Rattle.split_pass.proofs.divide.send_all.Goals as goal
 

@@ -1,18 +1,12 @@
 -- What a search adds is what the two searches below add after the diamond itself.
-use Rattle.std.proofs.Common.{◌≡◌, ◌⊎◌, ◌≤◌, ◌<◌, ◌+◌, ◌-◌, ◌*◌, ◌∷◌, ◌∙◌, ℕ, Some, Err, List, inl, inr, arith, length, ap, sym, refl, rules}
-use Rattle.std.specs.Option.{ForSome, option_map}
+use Rattle.std.proofs.Common.{◌≡◌, ◌⊎◌, ◌≤◌, ◌-◌, ◌*◌, ◌∷◌, ◌∙◌, Err, inl, inr, arith, length, ap, sym}
 use Rattle.std.proofs.lemmas.Result.{err_from_is_err_and, on_ok_weaker}
-use Rattle.tpz_base.specs.declared.shape.Point.{Point}
-use Rattle.tpz_base.specs.Meshes.{Mesh}
 use Rattle.tpz_base.specs.Diamonds.{level_of}
-use Rattle.tpz_base.specs.Tetrahedra.{Tetrahedron, child_0, child_1, diamond}
-use Rattle.tetra_name.specs.Names.{child_of, point_of, tetrahedron_of}
-use Rattle.diamond_graph.specs.declared.ancestors.ClosingFault.{ClosingFault}
+use Rattle.tpz_base.specs.Tetrahedra.{child_0, child_1, diamond}
+use Rattle.tetra_name.specs.Names.{point_of}
 use Rattle.diamond_graph.specs.Closed.{closure}
-use Rattle.split_pass.specs.declared.fault.SplitFault.{SplitFault}
-use Rattle.split_pass.specs.Faults.{fault_of}
 use Rattle.split_pass.specs.Crowds.{first_part, second_part, with_crowded}
-use Rattle.split_pass.proofs.Crowding.{both_end, both_found, both_too_many, left_child, named_diamond, right_child, told_length, too_many_fault, too_many_first, too_many_here, with_diamond, with_none, with_some}
+use Rattle.split_pass.proofs.Crowding.{both_end, both_found, both_too_many, left_child, named_diamond, right_child, told_length, too_many_fault, too_many_first, too_many_here, with_diamond, with_none}
 use Rattle.split_pass.proofs.find.+find.Goals as goal
 use Rattle.split_pass.proofs.find.+find.Goals.{then-count-from-via-then-count-from, then-count-from-via-else-count-from+then-level-l}
 

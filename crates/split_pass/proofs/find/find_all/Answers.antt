@@ -1,12 +1,10 @@
 -- One root after another, the diamonds below it are added.
-use Rattle.std.proofs.Common.{◌≡◌, ◌≤◌, ◌<◌, ◌+◌, ◌*◌, ◌-◌, ◌∙◌, [], Some, Err, arith, length, sym, ap, refl}
+use Rattle.std.proofs.Common.{◌<◌, ◌*◌, ◌-◌, ◌∙◌, Err, arith, length, sym, ap, refl}
 use Rattle.std.proofs.lemmas.Result.{err_from_is_err_and}
 use Rattle.tpz_base.specs.Diamonds.{level_of}
 use Rattle.tpz_base.specs.Roots.{root_part}
 use Rattle.tetra_name.specs.Names.{point_of}
-use Rattle.tri_stream.specs.Streams.{count_of, told_list, total}
-use Rattle.split_pass.specs.Crowds.{with_crowded, with_roots}
-use Rattle.split_pass.specs.Moves.{size_of}
+use Rattle.split_pass.specs.Crowds.{with_roots}
 use Rattle.split_pass.proofs.Crowding.{empty_closure, root_found, root_here, root_slot_of, root_too_many}
 use Rattle.split_pass.proofs.Moving.{live_differs, same_after, live_as_before}
 use Rattle.split_pass.proofs.find.find_all.Goals as goal

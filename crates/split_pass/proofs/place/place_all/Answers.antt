@@ -1,15 +1,13 @@
 -- Each triangle that is read is placed, and the table stays tidy.
-use Rattle.std.proofs.Common.{◌≡◌, ◌≤◌, ◌<◌, ◌+◌, ◌-◌, ◌++◌, ◌∷◌, ◌∙◌, [], ℕ, Some, None, arith, sym, ap, refl, subst}
+use Rattle.std.proofs.Common.{◌≡◌, ◌+◌, ◌∙◌, Some, None, arith, sym, ap, refl, subst}
 use Rattle.std.proofs.lemmas.Grind.{common_steps}
 use Rattle.std.specs.Prelude.{slice_get, take}
-use Rattle.std.specs.FinMap.{empty}
 use Rattle.tpz_base.specs.Meshes.{Mesh}
 use Rattle.diamond_graph.specs.Graphs.{centres}
 use Rattle.tetra_name.proofs.EveryName.{names_each}
-use Rattle.tri_stream.specs.Streams.{told_list, total, count_of, IsLive}
-use Rattle.assign.specs.Names.{LeafTable}
+use Rattle.tri_stream.specs.Streams.{told_list, IsLive}
 use Rattle.assign.specs.Standing.{HoldsPatches}
-use Rattle.split_pass.specs.Moves.{size_of, IsTidy}
+use Rattle.split_pass.specs.Moves.{size_of}
 use Rattle.split_pass.proofs.Moving.{same_size, told_bytes}
 use Rattle.split_pass.proofs.Naming.{still_tidy}
 use Rattle.split_pass.proofs.Placing.{all_taken, holds_same, holds_start, leaf_is, not_whole, one_more, reads_more, still_holds, tetrahedron_there, tidy_same, tidy_start}

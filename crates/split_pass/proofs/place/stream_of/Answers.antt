@@ -1,5 +1,5 @@
 -- The stream was made, and its name set.
-use Rattle.std.proofs.Common.{◌≡◌, ◌∙◌, sym}
+use Rattle.std.proofs.Common.{◌∙◌, sym}
 use Rattle.split_pass.proofs.Naming.{named_now}
 use Rattle.split_pass.proofs.place.stream_of.Goals as goal
 

@@ -1,8 +1,7 @@
 -- The stream was made without triangles, and then got those of the root.
-use Rattle.std.proofs.Common.{◌≡◌, ◌≤◌, ◌+◌, ◌∙◌, [], Some, arith, sym, ap}
-use Rattle.std.specs.Option.{option_map}
+use Rattle.std.proofs.Common.{◌∙◌, arith}
 use Rattle.tpz_base.specs.Roots.{root_part}
-use Rattle.tri_stream.specs.Streams.{count_of, told_list}
+use Rattle.tri_stream.specs.Streams.{told_list}
 use Rattle.split_pass.proofs.Moving.{filled, live_differs, same_size, told_bytes}
 use Rattle.split_pass.proofs.root.root_stream.Goals as goal
 

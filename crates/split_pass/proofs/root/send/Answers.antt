@@ -1,5 +1,5 @@
 -- The triangle is added where its root's slot is this one.
-use Rattle.std.proofs.Common.{◌≡◌, ◌∷◌, [], ◌∙◌, sym}
+use Rattle.std.proofs.Common.{◌∷◌, [], sym}
 use Rattle.std.specs.Prelude.{filter}
 use Rattle.tpz_base.specs.Roots.{is_in_root}
 use Rattle.tri_stream.specs.Streams.{told_list}

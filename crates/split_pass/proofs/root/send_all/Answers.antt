@@ -1,11 +1,9 @@
 -- Each triangle that is read is copied where it is in the root.
-use Rattle.std.proofs.Common.{◌≡◌, ◌≤◌, ◌<◌, ◌+◌, ◌∙◌, ℕ, Some, None, arith, sym, ap}
+use Rattle.std.proofs.Common.{◌≡◌, ◌+◌, ◌∙◌, Some, None, arith, sym, ap}
 use Rattle.std.proofs.lemmas.Grind.{common_steps}
 use Rattle.std.specs.Prelude.{slice_get}
-use Rattle.std.specs.Option.{unwrap_or}
 use Rattle.tpz_base.specs.Roots.{is_in_root}
-use Rattle.tri_stream.specs.Streams.{told_list, total, count_of}
-use Rattle.split_pass.specs.Moves.{size_of}
+use Rattle.tri_stream.specs.Streams.{told_list}
 use Rattle.split_pass.proofs.Dividing.{all_gone, more_gone}
 use Rattle.split_pass.proofs.Moving.{same_size}
 use Rattle.split_pass.proofs.root.send_all.Goals as goal

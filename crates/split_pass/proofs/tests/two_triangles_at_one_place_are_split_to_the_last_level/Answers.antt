@@ -1,5 +1,4 @@
 -- One stream was made, and triangles went to no other.
-use Rattle.std.proofs.Common.{◌≡◌, ◌∙◌}
 use Rattle.split_pass.proofs.Moving.{append_counts, none_else}
 use Rattle.split_pass.proofs.tests.two_triangles_at_one_place_are_split_to_the_last_level.Goals as goal
 
