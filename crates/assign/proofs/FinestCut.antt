@@ -16,6 +16,7 @@ use Rattle.tpz_base.proofs.SumLemmas.{sum_by-filter, sum_by-flat_map, sum_by-swa
 use Rattle.tpz_base.proofs.CutLaw.{Member, HasParents, is_parent, member-left, member-right, sum_by_same_on}
 use Rattle.diamond_graph.proofs.CutBuilding.{BuiltUp}
 use Rattle.tpz_base.proofs.Members.{tetrahedron_eq-true, tetrahedron_eq_refl, member-filter, member_named, level_within, level_differs, no_twice-differ}
+use Rattle.tpz_base.proofs.Diamonds.{in_levels}
 use Rattle.tpz_base.proofs.Distinct.{member-append, member-flat_map, at_its_level}
 use Rattle.assign.specs.Paths.{path, path_below}
 use Rattle.assign.specs.Leaf.{leaf, leaf_patch}
@@ -41,15 +42,6 @@ finest L n F M above up same one =
     (λ s. sum_by_same_on (λ T. cond (option_map_or (tetrahedron_eq T) (leaf L F s) false) (one s) 0) (weight L s (one s)) (active L F)
     (λ T m. ap (λ b. cond b (one s) 0) (same s T m) ∙ sym (weight_is L s (one s) T))
     ∙ path_meets_one L n F s (one s) above up) M
-
--- a tetrahedron of a level up to n is one of those up to level n
-in_levels : (L n m : ℕ) (T : Tetrahedron) → m ≤ n → Member (at_level L m) T → Member (up_to_level L n) T
-in_levels L zero m T h k = let is : m ≡ 0 = omega (arith, h) in subst (λ x. Member (at_level L x) T) is k
-in_levels L (suc n) m T h k =
-    elim (cases_lt n m) [
-      | inl e ↦ member-right (up_to_level L n) (at_level L (suc n)) T (let is : m ≡ suc n = omega (arith, h, e) in subst (λ x. Member (at_level L x) T) is k)
-      | inr e ↦ member-left (up_to_level L n) (at_level L (suc n)) T (in_levels L n m T e k)
-    ]
 
 found_in : (p : Tetrahedron → Bool) (xs : List Tetrahedron) (S : Tetrahedron) → find p xs ≡ Some S → has tetrahedron_eq xs S ≡ true
 found_in p [] S e = cc

@@ -21,6 +21,7 @@ use Rattle.tri_stream.specs.Streams.{StreamsState, told_list, IsLive, Stands}
 use Rattle.assign.specs.Names.{LeafTable}
 use Rattle.assign.specs.Leaf.{leaf_patch}
 use Rattle.assign.specs.Standing.{named_patch, HoldsPatches}
+use Rattle.split_pass.proofs.Dividing.{at_some}
 use Rattle.puzzle_cli.specs.Leaves.{part_of, Adds, AreLive, KeepsStreams}
 
 -- Streams that are as before.
@@ -101,13 +102,6 @@ cut_added L F leaves s told new adds M has = adds.added M has ∙ parts_are L F 
 
 -- What was read of a list.
 
-pub all_taken : (M : Mesh) (i : ℕ) → slice_get M i ≡ None → take i M ≡ M
-all_taken M i none =
-    elim (slice_get_cases M i).1 [
-      | inl w ↦ let some = w.2 in absurd cc
-      | inr w ↦ take_all i M (omega arith)
-    ]
-
 pub one_taken : {X : Type 0} (M : List X) (i : ℕ) (t : X) → slice_get M i ≡ Some t → take (i + 1) M ≡ take i M ++ t ∷ []
 one_taken M i t is =
     let within = slice_get_within M i t is in
@@ -119,10 +113,6 @@ one_taken M i t is =
 pub in_some : {X : Type 0} (o : Option X) (P : X → Type 0) → ((x : X) → o ≡ Some x → P x) → IfSome o P
 in_some None P f = tt
 in_some (Some x) P f = f x refl
-
-pub at_some : {X : Type 0} (o : Option X) (P : X → Type 0) (x : X) → IfSome o P → o ≡ Some x → P x
-at_some None P x h is = absurd cc
-at_some (Some y) P x h is = let e : y ≡ x = cc in subst P e h
 
 pub on_ok : {T E : Type 0} (r : Result T E) (P Q : Type 0) → (P → Q) → OnOk r P → OnOk r Q
 on_ok (Ok x) P Q f p = f p

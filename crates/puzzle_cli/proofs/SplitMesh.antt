@@ -41,8 +41,5 @@ pub split_too_many : (f : SplitFault) → split_status f ≡ TooManyRecords → 
 split_too_many split.TooManyRecords is = refl
 split_too_many split.Memory is = absurd cc
 
-pub counted_live : (o : Option ℕ) (n : ℕ) → o ≡ Some n → IsSome o
-counted_live o n is = rw is refl
-
 pub counted_size : (o : Option ℕ) (n : ℕ) → o ≡ Some n → unwrap_or o 0 ≡ n
 counted_size o n is = ap (λ o. unwrap_or o 0) is

@@ -1,7 +1,7 @@
-mod Dividing
+pub mod Dividing
 mod Moving
 mod Crowding
 mod Rooting
 mod CrowdLaw
 mod Naming
-mod Placing
+pub mod Placing

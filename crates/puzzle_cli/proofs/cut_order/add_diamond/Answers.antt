@@ -6,7 +6,8 @@ use Rattle.tetra_name.specs.Names.{count_of, point_of, IsName}
 use Rattle.diamond_graph.specs.Graphs.{centres}
 use Rattle.puzzle_cli.specs.Leaves.{Adds}
 use Rattle.puzzle_cli.specs.Numbering.{numbered_mesh}
-use Rattle.puzzle_cli.proofs.LeafOrder.{adds_more, adds_none, at_some, joined_more, keeps_both, keeps_self, live_still, members_done, named_member}
+use Rattle.split_pass.proofs.Dividing.{at_some}
+use Rattle.puzzle_cli.proofs.LeafOrder.{adds_more, adds_none, joined_more, keeps_both, keeps_self, live_still, members_done, named_member}
 use Rattle.puzzle_cli.proofs.cut_order.add_diamond.Goals as goal
 
 pub members-init : goal.members-init

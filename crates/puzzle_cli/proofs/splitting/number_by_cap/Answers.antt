@@ -3,16 +3,17 @@ use Rattle.std.proofs.Common.{◌≡◌, ◌∙◌, arith, ap, sym, Err}
 use Rattle.std.proofs.lemmas.Result.{IfOk-weaker}
 use Rattle.puzzle_cli.specs.declared.status.Status.TheVariants.{TooManyRecords}
 use Rattle.diamond_graph.specs.Adding.{ClosingState}
+use Rattle.tetra_name.proofs.NameFacts.{some_is}
 use Rattle.puzzle_cli.proofs.LeafOrder.{on_any}
 use Rattle.puzzle_cli.proofs.ReadLemmas.{told_later}
-use Rattle.puzzle_cli.proofs.SplitMesh.{counted_live, counted_size, few_split, many_split, split_mesh, split_too_many}
+use Rattle.puzzle_cli.proofs.SplitMesh.{counted_size, few_split, many_split, split_mesh, split_too_many}
 use Rattle.puzzle_cli.proofs.splitting.number_by_cap.Goals as goal
 
 pub split-requires-clause-l : goal.split-requires-clause-l
 split-requires-clause-l g c = ap (λ (closing : ClosingState). closing.l) c.new-closing.ensures ∙ sym c.in_ok-source.ensures.holds.level
 
 pub split-requires-clause-whole : goal.split-requires-clause-whole
-split-requires-clause-whole g c = counted_live _ _ c.in_ok-source.ensures.holds.count
+split-requires-clause-whole g c = some_is _ _ c.in_ok-source.ensures.holds.count
 
 pub split-requires-clause-only : goal.split-requires-clause-only
 split-requires-clause-only g c = c.in_ok-source.ensures.holds.only
