@@ -459,3 +459,17 @@ set_state before now i own err cell y same at =
   where
     same_record : (r : Record) → Some y ≡ Some r → y ≡ r
     same_record r e = cc
+
+-- where nothing is wrong, nothing is found
+
+pub none_out_of_order : (L : ℕ) (rs : List Record) → AreInOrder L rs → first_out_of_order L rs ≡ None
+unfolding first_out_of_order
+none_out_of_order L rs h = ap (option_map suc) (fails_nowhere (are_in_order L) (neighbours (map centre_of rs)) h)
+
+pub none_not_closed : (L : ℕ) (rs : List Record) → AreClosed L rs → first_not_closed L rs ≡ None
+unfolding first_not_closed IsConforming
+none_not_closed L rs h = fails_nowhere (has_parents L (map centre_of rs)) (map centre_of rs) h
+
+pub none_not_saturated : (L : ℕ) (rs : List Record) → AreSaturated L rs → first_not_saturated L rs ≡ None
+unfolding first_not_saturated
+none_not_saturated L rs h = fails_nowhere (is_saturated L rs) rs h
