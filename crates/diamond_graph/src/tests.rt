@@ -1,5 +1,5 @@
 // Worked sets in two small cubes, the ancestors of one of the deepest diamonds that can be split, and graphs of records.
-ghost use Rattle.std.specs.Prelude.{◌≡◌, ◌+◌, length, All};
+ghost use Rattle.std.specs.Prelude.{◌≡◌, ◌≤◌, ◌+◌, length, All};
 ghost use Rattle.diamond_graph.specs.Graphs.{IsStored};
 
 use super::*;

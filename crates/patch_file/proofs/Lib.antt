@@ -4,3 +4,4 @@ pub mod RecordsTrip
 pub mod FieldsTrip
 pub mod ReadLaw
 pub mod RoundTrip
+mod WorkedStores
