@@ -1,5 +1,5 @@
 // Worked sets in two small cubes, the ancestors of one of the deepest diamonds that can be split, and graphs of records.
-ghost use Rattle.std.specs.Prelude.{◌≡◌, ◌≤◌, ◌+◌, length, All};
+ghost use Rattle.std.specs.Prelude.{◌≡◌, ◌≤◌, ◌+◌, length, All, OnOk};
 ghost use Rattle.diamond_graph.specs.Graphs.{IsStored};
 
 use super::*;
@@ -158,19 +158,30 @@ fn record(centre: Half, own: u32, err: u64, lo: u32, height: u32) -> Record {
     }
 }
 
-/// Adds a record that a test has made.
-fn push(rt: &impl Abort, records: &mut Vec<Record>, r: Record) -> Result<(), AllocError>
-    requires { All (IsStored 2) records.old.items }
-    ensures stored { All (IsStored 2) records.new.items }
-    ensures more { length records.new.items ≤ length records.old.items + 1 }
+/// Looks at the fields of a record that a test has made.
+fn check_fields(rt: &impl Abort, r: &Record)
+    ensures { IsStored 2 r.now }
 {
     assert!(rt; is_centre(r.centre, 2));
     assert!(rt; level(r.centre, 2) < 6);
-    assert!(rt; r.own <= 1 << 30 && r.err <= 1 << 30);
-    assert!(rt;
-        r.cell.lo.x <= r.cell.hi.x && r.cell.lo.y <= r.cell.hi.y && r.cell.lo.z <= r.cell.hi.z
-    );
-    assert!(rt; r.cell.hi.x <= 4 && r.cell.hi.y <= 4 && r.cell.hi.z <= 4);
+    assert!(rt; r.own <= 1_073_741_824);
+    assert!(rt; r.err <= 96_636_764_160);
+    let (lo, hi) = (r.cell.lo, r.cell.hi);
+    assert!(rt; lo.x <= hi.x);
+    assert!(rt; lo.y <= hi.y);
+    assert!(rt; lo.z <= hi.z);
+    assert!(rt; hi.x <= 4);
+    assert!(rt; hi.y <= 4);
+    assert!(rt; hi.z <= 4);
+}
+
+/// Adds a record that a test has made.
+fn push(rt: &impl Abort, records: &mut Vec<Record>, r: Record) -> Result<(), AllocError>
+    requires { All (IsStored 2) records.old.items }
+    ensures stored { OnOk result (All (IsStored 2) records.new.items) }
+    ensures more { length records.new.items ≤ length records.old.items + 1 }
+{
+    check_fields(rt, &r);
     records.push(r)?;
     Ok(())
 }

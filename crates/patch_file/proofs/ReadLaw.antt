@@ -1,5 +1,5 @@
 -- A table that is read is in record order, closed and saturated.
-use Rattle.std.proofs.Common.{◌≡◌, ℕ, Bool, not, List, [], ◌∷◌, map, refl, sym, ◌∙◌, ap, subst, Option, Some, None, Result, Ok, Err, length}
+use Rattle.std.proofs.Common.{◌≡◌, ℕ, not, List, [], ◌∷◌, map, refl, sym, ap, subst, Option, Some, None, Result, Ok, Err, length}
 use Rattle.std.specs.Prelude.{option_map, drop, nat_lt, ◌==◌}
 use Rattle.tpz_base.specs.Meshes.{Mesh}
 use Rattle.diamond_graph.specs.Saturated.{AreInOrder, AreClosed, AreSaturated, first_out_of_order, first_not_closed, first_not_saturated}

@@ -1,17 +1,14 @@
 -- What is written of an allowed table is read back.
-use Rattle.std.proofs.Common.{◌≡◌, ℕ, suc, ◌+◌, ◌*◌, ◌^◌, ◌≤◌, Bool, true, false, not, ◌&&◌, ◌||◌, List, [], ◌∷◌, ◌++◌, length, drop, map, refl, sym, ◌∙◌, ap, ap₂, subst, inl, inr, arith, Option, None, Result, Ok, length-append, append_assoc}
-use Rattle.std.specs.Prelude.{ℤ, flat_map, find, position, option_map, zip, nat_le, nat_lt, ◌==◌, unsigned_abs}
+use Rattle.std.proofs.Common.{◌≡◌, ℕ, ◌+◌, ◌*◌, ◌^◌, ◌≤◌, Bool, true, not, ◌&&◌, ◌||◌, List, [], ◌∷◌, ◌++◌, length, drop, map, refl, sym, ◌∙◌, ap, ap₂, subst, inl, inr, arith, Option, None, Result, Ok, length-append, append_assoc}
+use Rattle.std.specs.Prelude.{ℤ, flat_map, find, option_map, nat_le, nat_lt, ◌==◌, unsigned_abs}
 use Rattle.std.specs.Int.{cast_signed, w64}
-use Rattle.std.specs.List.{list_all, range_with_len, position_or_len}
+use Rattle.std.specs.List.{list_all, range_with_len}
 use Rattle.std.proofs.Math.Seq.{drop-append_seam}
 use Rattle.std.proofs.lemmas.Bool.{and_parts, and_from, or_left, or_right, le-leb, lt-ltb, le-ltb, eq-eqb, cases_lt}
 use Rattle.std.proofs.lemmas.List.{drop-drop}
-use Rattle.tpz_base.specs.declared.shape.Point.{Point}
 use Rattle.tpz_base.specs.Meshes.{Mesh}
-use Rattle.diamond_graph.specs.Closed.{has_parents}
 use Rattle.tpz_base.proofs.CutLaw.{Member}
 use Rattle.tpz_base.proofs.Distinct.{all_at}
-use Rattle.tpz_base.specs.Diamonds.{record_lt}
 use Rattle.patch_file.specs.declared.shape.Params.{Params}
 use Rattle.patch_file.specs.declared.shape.StoreBad.{StoreBad}
 use Rattle.patch_file.specs.declared.shape.StoreBad.TheVariants.{Short, Magic, Unfinished, Field, Order, NotClosed, NotSaturated}
