@@ -1,27 +1,26 @@
 -- The first record of a list that can't stand in a graph, and the graph of a list that has none.
-use Rattle.std.proofs.Common.{◌≡◌, ℕ, zero, suc, ◌+◌, ◌-◌, ◌*◌, ◌<◌, ◌≤◌, ◌^◌, Bool, true, false, cond, not, ◌&&◌, Option, Some, None, List, [], ◌∷◌, ◌++◌, map, max, take, drop, set, length, get_or, fold, refl, sym, ◌∙◌, ap, ap₂, subst, inl, inr, arith, true≢false, slice_get}
-use Rattle.std.specs.Prelude.{All, zip, filter, flat_map, position, nat_lt, ◌==◌, option_map, IfSome}
+use Rattle.std.proofs.Common.{◌≡◌, ℕ, zero, suc, ◌+◌, ◌-◌, ◌*◌, ◌<◌, ◌≤◌, ◌^◌, Bool, true, false, cond, not, ◌&&◌, Option, Some, None, List, [], ◌∷◌, ◌++◌, map, max, take, drop, set, length, get_or, fold, refl, sym, ◌∙◌, ap, ap₂, subst, inl, inr, arith, slice_get}
+use Rattle.std.specs.Prelude.{All, flat_map, position, nat_lt, ◌==◌, option_map, IfSome}
 use Rattle.std.specs.Option.{ForSome}
-use Rattle.std.specs.List.{list_all, list_any, position_or_len, IsDistinct, AllByRecursion}
+use Rattle.std.specs.List.{list_all, position_or_len, IsDistinct, AllByRecursion}
 use Rattle.std.proofs.lemmas.Bool.{cases_Bool, and_parts, and_from, lt-ltb, ltb-true, ltb-false, eqb-true}
 use Rattle.std.proofs.lemmas.List.{length-map, take_more, take_all, map-append, map_more, get_or-map, append-nil, map-set, set-get_or, length-set, get_or_default}
 use Rattle.std.proofs.lemmas.Option.{get_or_from_slice_get, slice_get_cases}
 use Rattle.std.proofs.lemmas.List.Concat.{flat_map-append}
-use Rattle.std.proofs.lemmas.List.Folds.{list_all-append, list_all_more, list_all_at}
+use Rattle.std.proofs.lemmas.List.Folds.{list_all-append, list_all_more}
 use Rattle.std.proofs.lemmas.List.Sums.{fold-append}
 use Rattle.std.proofs.lemmas.List.Elements.{All-weaker, All-map, All-set}
 use Rattle.tpz_base.specs.declared.shape.Point.{Point}
 use Rattle.tpz_base.specs.declared.shape.Cell.{Cell}
 use Rattle.tpz_base.specs.Points.{point_eq}
-use Rattle.tpz_base.specs.Lists.{in_order}
 use Rattle.tpz_base.specs.Tetrahedra.{kids, parents}
 use Rattle.tpz_base.specs.Cuts.{has_diamond}
 use Rattle.tpz_base.specs.Diamonds.{level_of, record_lt}
-use Rattle.tpz_base.proofs.PointLemmas.{point_eq-true, eq-point_eq, ne-point_eq, point_eq_sym}
+use Rattle.tpz_base.proofs.PointLemmas.{point_eq-true, ne-point_eq, point_eq_sym}
 use Rattle.tpz_base.proofs.CutLaw.{Member}
 use Rattle.tpz_base.proofs.Members.{NoTwice, member-filter}
 use Rattle.tpz_base.proofs.Distinct.{member-flat_map}
-use Rattle.tpz_base.proofs.Elements.{map-member, all_from, at_all, ascending_from, ascending-no_twice}
+use Rattle.tpz_base.proofs.Elements.{at_all, ascending_from, ascending-no_twice}
 use Rattle.tpz_base.proofs.RecordLt.{record_lt-same, record_lt-through}
 use Rattle.tpz_base.proofs.Diamonds.{kid_level}
 use Rattle.tetra_name.specs.declared.shape.Half.{Half}

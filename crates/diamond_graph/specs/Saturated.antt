@@ -7,7 +7,6 @@ use Rattle.tpz_base.specs.declared.shape.Cell.{Cell}
 use Rattle.tpz_base.specs.Points.{point_eq}
 use Rattle.tpz_base.specs.Tetrahedra.{kids}
 use Rattle.tpz_base.specs.Diamonds.{record_lt}
-use Rattle.tetra_name.specs.Names.{point_of}
 use Rattle.diamond_graph.specs.declared.record.Record.{Record}
 use Rattle.diamond_graph.specs.declared.fault.GraphFault.{GraphFault}
 use Rattle.diamond_graph.specs.declared.fault.GraphFault.TheVariants.{Order, NotClosed, NotSaturated}

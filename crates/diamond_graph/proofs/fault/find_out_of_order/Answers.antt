@@ -1,4 +1,4 @@
-use Rattle.std.proofs.Common.{◌≡◌, ◌<◌, ◌≤◌, true, false, length, arith, sym, ◌∙◌}
+use Rattle.std.proofs.Common.{◌≡◌, true, false, arith, sym, ◌∙◌}
 use Rattle.diamond_graph.proofs.FaultLaw.{order_more, order_fails, order_holds}
 use Rattle.diamond_graph.proofs.fault.find_out_of_order.Goals as goal
 

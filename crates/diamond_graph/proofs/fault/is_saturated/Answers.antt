@@ -1,6 +1,5 @@
 use Rattle.std.proofs.Common.{◌≡◌, ◌<◌, ◌&&◌, true, false, length, arith, sym, ap, ◌∙◌}
 use Rattle.std.specs.Option.{option_to_list}
-use Rattle.tetra_name.specs.Names.{point_of}
 use Rattle.diamond_graph.specs.Graphs.{centre_of, halved}
 use Rattle.diamond_graph.specs.Saturated.{holds, holds_cell}
 use Rattle.diamond_graph.proofs.FaultLaw.{err_more, held_more, saturated_is}

@@ -1,4 +1,3 @@
-use Rattle.std.proofs.Common.{◌≡◌, sym, ap, ◌∙◌}
 use Rattle.tetra_name.specs.Names.{point_of}
 use Rattle.diamond_graph.proofs.FaultLaw.{record_found, record_missing}
 use Rattle.diamond_graph.proofs.fault.record_of.Goals as goal

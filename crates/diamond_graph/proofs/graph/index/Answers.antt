@@ -1,4 +1,4 @@
-use Rattle.std.proofs.Common.{◌<◌, length, arith}
+use Rattle.std.proofs.Common.{arith}
 use Rattle.diamond_graph.proofs.FaultLaw.{index_more}
 use Rattle.diamond_graph.proofs.graph.index.Goals as goal
 

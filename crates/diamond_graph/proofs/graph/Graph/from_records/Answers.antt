@@ -1,7 +1,6 @@
 -- What the three searches didn't find makes the records those of a graph.
 use Rattle.std.proofs.Common.{◌≡◌, None, sym, ◌∙◌, ap}
-use Rattle.tpz_base.specs.Points.{point_eq}
-use Rattle.diamond_graph.specs.Saturated.{first_out_of_order, first_not_closed, first_not_saturated, AreInOrder, AreClosed, AreSaturated}
+use Rattle.diamond_graph.specs.Saturated.{first_out_of_order, first_not_closed, first_not_saturated}
 use Rattle.diamond_graph.proofs.FaultLaw.{none_order, none_closed, none_saturated, order_distinct, graph_checked}
 use Rattle.diamond_graph.proofs.graph.Graph.from_records.Goals as goal
 

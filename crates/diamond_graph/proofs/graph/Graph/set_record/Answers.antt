@@ -1,7 +1,7 @@
 -- The record that is replaced keeps its centre, so the index stays right.
 use Rattle.std.proofs.Common.{◌≡◌, refl, ◌∙◌, sym, slice_get, Some}
 use Rattle.diamond_graph.specs.declared.record.Record.{Record}
-use Rattle.diamond_graph.specs.Graphs.{GraphState, with_errors, IsRecord}
+use Rattle.diamond_graph.specs.Graphs.{with_errors, IsRecord}
 use Rattle.diamond_graph.proofs.FaultLaw.{asked_of, set_state, set_graph, set_centres}
 use Rattle.diamond_graph.proofs.graph.Graph.set_record.Goals as goal
 use Rattle.diamond_graph.proofs.graph.Graph.set_record.Goals.{After-index}
