@@ -17,7 +17,7 @@ use Rattle.tetra_name.specs.Names.{point_of, half_of, count_of, IsCentre}
 use Rattle.tetra_name.proofs.NamesLaw.{within_of}
 use Rattle.diamond_graph.specs.declared.record.Record.{Record}
 use Rattle.patch_file.specs.Tables.{Contents, TableRecord, contents_of, centre_of}
-use Rattle.patch_file.specs.Bytes.{Bytes, word_32, word_64, point_bytes, patch_bytes, move_bytes, counted, block_bytes, blocks_bytes, record_bytes, records_bytes}
+use Rattle.patch_file.specs.Bytes.{Bytes, word_32, patch_bytes, move_bytes, counted, block_bytes, blocks_bytes, entry_bytes, record_bytes, records_bytes}
 use Rattle.patch_file.specs.Blocks.{value_of, number_at, point_at, in_cube, block_of}
 use Rattle.patch_file.specs.Allowed.{is_allowed_entry, IsAllowedRecord}
 use Rattle.patch_file.specs.Stores.{level_bits, record_at, block_at, block_length, patch_count, read_block}
@@ -60,11 +60,6 @@ storable l r fits h =
       lo = in_cube-small l r.cell.lo fits d.0;
       hi = in_cube-small l r.cell.hi fits e.0;
     }
-
--- 64 bytes
-unfoldable pub entry_bytes : Record → ℕ → ℕ → Bytes
-entry_bytes r offset len =
-    point_bytes (point_of r.centre) ++ word_32 r.own ++ word_64 r.err ++ point_bytes r.cell.lo ++ point_bytes r.cell.hi ++ word_64 offset ++ word_64 len
 
 record_cong : (r : Record) (c lo hi : Point) (own err : ℕ) → c ≡ point_of r.centre → own ≡ r.own → err ≡ r.err → lo ≡ r.cell.lo → hi ≡ r.cell.hi
     → ◌≡◌ {A = Record} (record { centre = half_of c; own = own; err = err; cell = record { lo = lo; hi = hi } }) r

@@ -15,7 +15,7 @@ use Rattle.patch_file.specs.declared.shape.StoreBad.TheVariants.{Short, Magic, U
 use Rattle.patch_file.specs.Tables.{Table, TableRecord, entries_of}
 use Rattle.diamond_graph.specs.Saturated.{first_out_of_order, first_not_closed, first_not_saturated}
 use Rattle.diamond_graph.proofs.FaultLaw.{none_out_of_order, none_not_closed, none_not_saturated}
-use Rattle.patch_file.specs.Bytes.{Bytes, word_32, word_64, signed_64, bytes_of, records_bytes, record_bytes, blocks_bytes, base_bytes, base_offset, first_block}
+use Rattle.patch_file.specs.Bytes.{Bytes, word_32, word_64, signed_64, bytes_of, entry_bytes, records_bytes, record_bytes, blocks_bytes, base_bytes, base_offset, first_block}
 use Rattle.patch_file.specs.Blocks.{number_at, base_of}
 use Rattle.patch_file.specs.Allowed.{IsAllowed, IsAllowedRecord}
 use Rattle.patch_file.specs.Stores.{level_bits, record_count, records_end, base_at, total, signed_at, numbers, header_fields, record_fields, record_at, read_block, wrong_field, records_of, table_of, or_refused, refused_if, with_base, read}
@@ -35,6 +35,7 @@ list_all-append p (x ∷ xs) ys h k =
     let a = and_parts (p x) (list_all p xs) h in and_from (p x) _ a.0 (list_all-append p xs ys a.1 k)
 
 records_long : (first : ℕ) (rs : List TableRecord) → length (records_bytes first rs) ≡ 64 * length rs
+unfolding entry_bytes
 records_long first [] = refl
 records_long first (r ∷ rs) =
     let rest = records_long first rs in

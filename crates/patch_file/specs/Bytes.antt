@@ -6,6 +6,7 @@ use Rattle.tpz_base.specs.declared.shape.Tri.{Tri}
 use Rattle.tpz_base.specs.declared.shape.Move.{Move}
 use Rattle.tpz_base.specs.Meshes.{Mesh}
 use Rattle.tetra_name.specs.Names.{point_of}
+use Rattle.diamond_graph.specs.declared.record.Record.{Record}
 use Rattle.patch_file.specs.declared.shape.Params.{Params}
 use Rattle.patch_file.specs.Tables.{Table, TableRecord, contents_of}
 
@@ -44,11 +45,13 @@ block_bytes r = flat_map patch_bytes (contents_of r).patches ++ counted move_byt
 abbrev pub blocks_bytes : List TableRecord → Bytes
 blocks_bytes rs = flat_map block_bytes (reverse rs)
 
+-- an entry, with the place and the length of its block: 64 bytes
+unfoldable pub entry_bytes : Record → ℕ → ℕ → Bytes
+entry_bytes r offset len =
+    point_bytes (point_of r.centre) ++ word_32 r.own ++ word_64 r.err ++ point_bytes r.cell.lo ++ point_bytes r.cell.hi ++ word_64 offset ++ word_64 len
+
 abbrev pub record_bytes : ℕ → TableRecord → Bytes
-record_bytes offset r =
-    let h = r.entry in
-    point_bytes (point_of h.centre) ++ word_32 h.own ++ word_64 h.err ++ point_bytes h.cell.lo ++ point_bytes h.cell.hi
-    ++ word_64 offset ++ word_64 (length (block_bytes r))
+record_bytes offset r = entry_bytes r.entry offset (length (block_bytes r))
 
 -- the records, whose blocks begin at `first`: a record's block stands behind those of the later records
 abbrev pub records_bytes : ℕ → List TableRecord → Bytes
@@ -64,11 +67,15 @@ base_offset tb = first_block tb + length (blocks_bytes tb.records)
 abbrev pub base_bytes : Table → Bytes
 base_bytes tb = flat_map patch_bytes tb.base
 
-abbrev pub header_bytes : Table → Params → Bytes
-header_bytes tb params =
+-- params, the number of records, the place of the base, and the length of the whole: 80 bytes
+abbrev pub head_bytes : Params → ℕ → ℕ → ℕ → Bytes
+head_bytes params records base total =
     (84 ∷ 80 ∷ 90 ∷ 49 ∷ 1 ∷ params.l ∷ params.digits ∷ 0 ∷ []) ++ flat_map signed_64 params.low
     ++ word_64 params.tris ++ word_64 params.dropped ++ word_32 params.cap ++ word_32 params.budget
-    ++ word_32 (length tb.records) ++ word_32 0 ++ word_64 (base_offset tb) ++ word_64 (base_offset tb + length (base_bytes tb))
+    ++ word_32 records ++ word_32 0 ++ word_64 base ++ word_64 total
+
+abbrev pub header_bytes : Table → Params → Bytes
+header_bytes tb params = head_bytes params (length tb.records) (base_offset tb) (base_offset tb + length (base_bytes tb))
 
 abbrev pub bytes_of : Table → Params → Bytes
 bytes_of tb params =

@@ -1,6 +1,7 @@
 //! The store: the file that a build leaves, and what its bytes hold.
 #![tactic(auto)]
 
+mod encode;
 mod law;
 mod shape;
 
