@@ -5,3 +5,4 @@ pub mod FieldsTrip
 pub mod ReadLaw
 pub mod RoundTrip
 mod WorkedStores
+pub mod ThreeNumbers
