@@ -1,0 +1,8 @@
+pub mod BlockTrip
+pub mod HeaderTrip
+pub mod RecordsTrip
+pub mod FieldsTrip
+pub mod ReadLaw
+pub mod RoundTrip
+mod WorkedStores
+pub mod ThreeNumbers

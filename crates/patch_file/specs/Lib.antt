@@ -1,0 +1,5 @@
+pub mod Tables
+pub mod Bytes
+pub mod Blocks
+pub mod Stores
+pub mod Allowed
