@@ -19,10 +19,10 @@ pub record Makes (id : StreamId) (old new : StreamsState) : Type 0 where
   pub l : new.l ≡ old.l
   pub stands : (bytes : List ℕ) → Stands old bytes → Stands new bytes
 
-nothing_told : (s : StreamsState) → ForSome None (Stands s)
+pub nothing_told : (s : StreamsState) → ForSome None (Stands s)
 nothing_told s = λ bytes is. absurd cc
 
-one_told : (s : StreamsState) (bytes : List ℕ) → Stands s bytes → ForSome (Some bytes) (Stands s)
+pub one_told : (s : StreamsState) (bytes : List ℕ) → Stands s bytes → ForSome (Some bytes) (Stands s)
 one_told s bytes h = λ bytes' is. let e : bytes ≡ bytes' = cc in subst (Stands s) e h
 
 -- two names with different counts differ
@@ -99,15 +99,6 @@ same_name x y =
 
 pub live_as_before : (s s' : StreamsState) (x : StreamId) → count_of s' x ≡ count_of s x → IsLive s x → IsLive s' x
 live_as_before s s' x same live = rw same live
-
--- a stream that was made and has ended leaves every count as it was
-pub same_after : (id : StreamId) (s0 s1 s2 : StreamsState) (x : StreamId) → count_of s0 id ≡ None → ((y : StreamId) → y ≢ id → count_of s1 y ≡ count_of s0 y)
-    → ((y : StreamId) → y ≢ id → count_of s2 y ≡ count_of s1 y) → count_of s2 id ≡ None → count_of s2 x ≡ count_of s0 x
-same_after id s0 s1 s2 x fresh made ends ended =
-    elim (same_name x id) [
-      | inl is ↦ let a = ap (count_of s2) is in let b = ap (count_of s0) is in a ∙ ended ∙ sym (b ∙ fresh)
-      | inr ne ↦ ends x ne ∙ made x ne
-    ]
 
 -- an `append` leaves the counts of the other streams, Ok or not
 pub append_counts : {X E : Type 0} (r : Result X E) (id : StreamId) (s s' : StreamsState) (h h' : Option (List ℕ)) → OnOk r (LeavesOthers id s s' h h')

@@ -14,7 +14,7 @@ ghost use Rattle.split_pass.specs.Moves.{size_of, Ends, Stays};
 
 use crate::divide::divide;
 use crate::fault::SplitFault;
-use crate::root::root_stream;
+use crate::root::{root_streams, stream_at};
 use diamond_graph::Closing;
 use tetra_name::{Tet, child, level, root};
 use tpz_io::Blob;
@@ -89,8 +89,9 @@ pub(crate) fn find_all<B: Blob>(
     ensures stays { Stays streams.old streams.new (B.held work.new) }
     ensures later { B.faults work.old ≤ B.faults work.new }
 {
+    let ids = root_streams(streams, work, whole)?;
     'slots: for slot in 0..6 {
-        let id = root_stream(streams, work, whole, slot)?;
+        let id = stream_at(ids, slot);
         find(streams, work, closing, root(slot, l), l, id, cap)?;
     }
     Ok(())

@@ -6,7 +6,6 @@ use Rattle.tri_stream.specs.Streams.{count_of, total, IsLive}
 use Rattle.tri_stream.proofs.OneStream.{total_of_one}
 use Rattle.std.proofs.lemmas.Result.{err_from_is_err_and}
 use Rattle.tpz_base.specs.declared.shape.Point.{Point}
-use Rattle.tpz_base.specs.Meshes.{Mesh}
 use Rattle.diamond_graph.specs.Adding.{most_centres}
 use Rattle.diamond_graph.specs.Graphs.{centres, GraphState}
 use Rattle.assign.specs.Splits.{split_set}

@@ -1,18 +1,25 @@
--- The triangle is added where its root's slot is this one.
-use Rattle.std.proofs.Common.{◌∷◌, [], sym}
-use Rattle.std.specs.Prelude.{filter}
-use Rattle.tpz_base.specs.Roots.{is_in_root}
-use Rattle.tri_stream.specs.Streams.{told_list}
-use Rattle.split_pass.proofs.Dividing.{nothing_more}
-use Rattle.split_pass.proofs.Rooting.{root_has, root_lacks}
+-- The stream of the triangle's root gets it, and the five other ones stay.
+use Rattle.std.proofs.lemmas.Result.{on_ok_weaker}
+use Rattle.split_pass.proofs.Rooting.{on_ok_both, sent_list, sent_live, sent_others}
 use Rattle.split_pass.proofs.root.send.Goals as goal
 
-pub returns-then-root_of-slot-clause-list : goal.returns-then-root_of-slot-clause-list
-returns-then-root_of-slot-clause-list g c =
-    let all = root_has c.args.slot c.root_of.result c.args.t c.root_of.ensures.slot c.if-root_of-slot.true in
-    rw all c.append.ensures.list
+pub returns-clause-lists : goal.returns-clause-lists
+returns-clause-lists g c =
+    let held = g.B.Blob.held in
+    on_ok_both c.append.result
+    (sent_list c.args.ids c.root_of-slot.result c.stream_at-id.result c.args.t c.args.streams.now c.append.new.self (held c.args.work.now) (held c.append.new.blob)
+    c.requires.apart c.stream_at-id.ensures c.root_of-slot.ensures.slot) c.append.ensures.list c.append.ensures.others
 
-pub returns-clause-list : goal.returns-clause-list
-returns-clause-list g c =
-    let none = root_lacks c.args.slot c.root_of.result c.args.t c.root_of.ensures.slot c.if-root_of-slot.false in
-    sym (nothing_more (told_list c.args.streams.now (g.B.Blob.held c.args.work.now) c.args.id) (filter (is_in_root c.args.slot) (c.args.t ∷ [])) none)
+pub returns-clause-live : goal.returns-clause-live
+returns-clause-live g c =
+    let held = g.B.Blob.held in
+    on_ok_weaker c.append.result
+    (sent_live c.args.ids c.stream_at-id.result c.args.streams.now c.append.new.self (held c.args.work.now) (held c.append.new.blob) c.requires.live c.append.ensures.live)
+    c.append.ensures.others
+
+pub returns-clause-others : goal.returns-clause-others
+returns-clause-others g c =
+    let held = g.B.Blob.held in
+    on_ok_weaker c.append.result
+    (sent_others c.args.ids c.root_of-slot.result c.stream_at-id.result c.args.streams.now c.append.new.self (held c.args.work.now) (held c.append.new.blob)
+    c.stream_at-id.ensures) c.append.ensures.others

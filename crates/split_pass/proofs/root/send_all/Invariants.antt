@@ -1,11 +1,11 @@
--- The triangles of the root among those that were read have been copied.
-use Rattle.std.proofs.Common.{◌≡◌, ◌≢◌, ◌≤◌, ◌+◌, ◌-◌, ◌++◌}
-use Rattle.std.specs.Prelude.{filter, take}
+-- The triangles that were read have gone to the streams of their roots.
+use Rattle.std.proofs.Common.{◌≡◌, ◌≤◌, ◌+◌, ◌-◌, ◌++◌, ℕ, Some}
+use Rattle.std.specs.Prelude.{filter, slice_get, take}
 use Rattle.std.specs.Option.{ForSome, option_map}
 use Rattle.tpz_base.specs.Roots.{is_in_root}
 use Rattle.tri_stream.specs.declared.names.StreamId.{StreamId}
-use Rattle.tri_stream.specs.Streams.{count_of, told_list, total, IsLive, Follows}
-use Rattle.split_pass.specs.Moves.{size_of, Stays}
+use Rattle.tri_stream.specs.Streams.{told_list, total, Follows}
+use Rattle.split_pass.specs.Moves.{size_of, AreLive, LeavesAllOthers, Stays}
 use Rattle.split_pass.proofs.root.send_all.Given as goal
 
 abbrev pub invariant-triangles : goal.invariant-triangles
@@ -17,12 +17,11 @@ invariant-triangles g l =
       stream : l.at.stream ≡ l.fn.whole;
       given : l.at.given ≤ size_of l.fn.streams l.fn.whole;
       follows : Follows l.streams (held l.work) l.at;
-      list : ForSome (old l.fn.whole) (λ M. now l.id ≡ option_map (λ list. list ++ filter (is_in_root l.slot) (take l.at.given M)) (old l.id));
-      live : IsLive l.streams l.id;
-      counts : (x : StreamId) → x ≢ l.id → count_of l.streams x ≡ count_of l.fn.streams x;
-      lists : (x : StreamId) → x ≢ l.id → now x ≡ old x;
-      total : total l.streams ≡ total l.fn.streams + size_of l.streams l.id;
-      few : size_of l.streams l.id ≤ l.at.given;
+      lists : ForSome (old l.fn.whole)
+          (λ M. (k : ℕ) (x : StreamId) → slice_get l.ids k ≡ Some x → now x ≡ option_map (λ list. list ++ filter (is_in_root k) (take l.at.given M)) (old x));
+      live : AreLive l.ids l.streams;
+      others : LeavesAllOthers l.ids l.fn.streams l.streams (held l.fn.work) (held l.work);
+      total : total l.streams ≡ total l.fn.streams + l.at.given;
       stays : Stays l.fn.streams l.streams (held l.work);
       later : g.B.Blob.faults l.fn.work ≤ g.B.Blob.faults l.work;
     }
