@@ -149,13 +149,13 @@ tri_at n i size low = go (n * 2) (n * (n * 2)) (2 * (n * (n * 2))) refl refl ref
         within_p = lp;
         within_q = lq;
         same =
-          ap (slice_get (generated n)) (sym e)
-          ∙ ap (λ r. slice_get (generated n) (a * axis + (s * side + (p * r + (q * 2 + h))))) rows
-          ∙ ap (λ r. slice_get (generated n) (a * axis + (s * r + (p * (n * 2) + (q * 2 + h))))) sides
-          ∙ ap (λ r. slice_get (generated n) (a * r + (s * (n * (n * 2)) + (p * (n * 2) + (q * 2 + h))))) axes
-          ∙ at_square n a s p q h la ls lp lq lh
-          (subst (λ m. p * (n * 2) + (q * 2 + h) < m) sides (subst (λ r. p * r + (q * 2 + h) < side) rows ins))
-          (subst (λ m. s * (n * (n * 2)) + (p * (n * 2) + (q * 2 + h)) < m) axes (subst (λ m. s * m + (p * (n * 2) + (q * 2 + h)) < axis) sides (subst (λ r. s * side + (p * r + (q * 2 + h)) < axis) rows ina)));
+            ap (slice_get (generated n)) (sym e)
+            ∙ ap (λ r. slice_get (generated n) (a * axis + (s * side + (p * r + (q * 2 + h))))) rows
+            ∙ ap (λ r. slice_get (generated n) (a * axis + (s * r + (p * (n * 2) + (q * 2 + h))))) sides
+            ∙ ap (λ r. slice_get (generated n) (a * r + (s * (n * (n * 2)) + (p * (n * 2) + (q * 2 + h))))) axes
+            ∙ at_square n a s p q h la ls lp lq lh
+            (subst (λ m. p * (n * 2) + (q * 2 + h) < m) sides (subst (λ r. p * r + (q * 2 + h) < side) rows ins))
+            (subst (λ m. s * (n * (n * 2)) + (p * (n * 2) + (q * 2 + h)) < m) axes (subst (λ m. s * m + (p * (n * 2) + (q * 2 + h)) < axis) sides (subst (λ r. s * side + (p * r + (q * 2 + h)) < axis) rows ina)));
       }
 
 -- corners differ

@@ -52,9 +52,14 @@ row_sum f P p a (suc k) =
     let rest' = rw next at rest in
     let here = two f (triangle (P p a) (P (p + 1) a) (P (p + 1) (a + 1))) (triangle (P p a) (P (p + 1) (a + 1)) (P p (a + 1))) in
     let here' = two (back f) (triangle (P p a) (P (p + 1) a) (P (p + 1) (a + 1))) (triangle (P p a) (P (p + 1) (a + 1)) (P p (a + 1))) in
-    rw (sum_by-cons (λ q. total f (facing P 1 p q)) a (range_with_len (a + 1) k), sum_by-cons (λ q. total (back f) (facing P 1 p q)) a (range_with_len (a + 1) k),
-    sum_by-cons (λ q. f (P p q) (P p (q + 1))) a (range_with_len (a + 1) k), sum_by-cons (λ q. f (P p (q + 1)) (P p q)) a (range_with_len (a + 1) k),
-    sum_by-cons (λ q. f (P (p + 1) q) (P (p + 1) (q + 1))) a (range_with_len (a + 1) k), sum_by-cons (λ q. f (P (p + 1) (q + 1)) (P (p + 1) q)) a (range_with_len (a + 1) k))
+    rw (
+      sum_by-cons (λ q. total f (facing P 1 p q)) a (range_with_len (a + 1) k),
+      sum_by-cons (λ q. total (back f) (facing P 1 p q)) a (range_with_len (a + 1) k),
+      sum_by-cons (λ q. f (P p q) (P p (q + 1))) a (range_with_len (a + 1) k),
+      sum_by-cons (λ q. f (P p (q + 1)) (P p q)) a (range_with_len (a + 1) k),
+      sum_by-cons (λ q. f (P (p + 1) q) (P (p + 1) (q + 1))) a (range_with_len (a + 1) k),
+      sum_by-cons (λ q. f (P (p + 1) (q + 1)) (P (p + 1) q)) a (range_with_len (a + 1) k),
+    )
     (omega (arith, rest', here, here'))
 
 -- the rows of a side
@@ -69,10 +74,14 @@ side_sum f P n a (suc k) =
     let zeroed : 0 + n ≡ n = omega arith in
     let row = row_sum f P a 0 n in
     let row' = rw zeroed at row in
-    rw (sum_by-cons (λ p. sum_by (λ q. total f (facing P 1 p q)) (range_with_len 0 n)) a (range_with_len (a + 1) k),
-    sum_by-cons (λ p. sum_by (λ q. total (back f) (facing P 1 p q)) (range_with_len 0 n)) a (range_with_len (a + 1) k),
-    sum_by-cons (λ p. f (P p 0) (P (p + 1) 0)) a (range_with_len (a + 1) k), sum_by-cons (λ p. f (P (p + 1) 0) (P p 0)) a (range_with_len (a + 1) k),
-    sum_by-cons (λ p. f (P p n) (P (p + 1) n)) a (range_with_len (a + 1) k), sum_by-cons (λ p. f (P (p + 1) n) (P p n)) a (range_with_len (a + 1) k))
+    rw (
+      sum_by-cons (λ p. sum_by (λ q. total f (facing P 1 p q)) (range_with_len 0 n)) a (range_with_len (a + 1) k),
+      sum_by-cons (λ p. sum_by (λ q. total (back f) (facing P 1 p q)) (range_with_len 0 n)) a (range_with_len (a + 1) k),
+      sum_by-cons (λ p. f (P p 0) (P (p + 1) 0)) a (range_with_len (a + 1) k),
+      sum_by-cons (λ p. f (P (p + 1) 0) (P p 0)) a (range_with_len (a + 1) k),
+      sum_by-cons (λ p. f (P p n) (P (p + 1) n)) a (range_with_len (a + 1) k),
+      sum_by-cons (λ p. f (P (p + 1) n) (P p n)) a (range_with_len (a + 1) k),
+    )
     (omega (arith, rest', row'))
 
 -- the sum over a side that faces up the axis, and over the one that faces down
