@@ -6,3 +6,7 @@ pub mod ReadLaw
 pub mod RoundTrip
 mod WorkedStores
 pub mod ThreeNumbers
+pub mod Numbers
+pub mod Items
+pub mod AskingLaw
+pub mod BlockForm

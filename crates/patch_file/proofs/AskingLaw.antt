@@ -1,0 +1,57 @@
+-- Calls that ask a store, one after another.
+use Rattle.std.proofs.Common.{◌≡◌, ℕ, zero, suc, ◌+◌, ◌-◌, ◌^◌, ◌<◌, ◌≤◌, min, max, Bool, true, false, not, List, [], ◌∷◌, ◌++◌, length, replicate, refl, sym, ◌∙◌, ap, subst, arith, Option, Some, None, append_assoc, length-append}
+use Rattle.std.specs.Prelude.{count_by}
+use Rattle.tpz_io.specs.Causes.{Rose, one_more}
+use Rattle.tpz_io.specs.Told.{Notes}
+use Rattle.patch_file.specs.Asking.{risen, RoseBy, NotesAll, failures, Asks, IsTried, HasTried}
+
+pub failures_both : (a b : List Bool) → failures (a ++ b) ≡ failures a + failures b
+failures_both [] b = omega arith
+failures_both (true ∷ a) b = failures_both a b
+failures_both (false ∷ a) b = let e = failures_both a b in omega arith
+
+noted_both : (a b : List Bool) (o o' o'' : Option (List Bool)) → NotesAll a o o' → NotesAll b o' o'' → NotesAll (a ++ b) o o''
+noted_both a b o o' None h k = tt
+noted_both a b o None (Some z) h k = absurd k
+noted_both a b None (Some y) (Some z) h k = absurd h
+noted_both a b (Some x) (Some y) (Some z) h k = k ∙ ap (λ (l : List Bool). l ++ b) h ∙ append_assoc x a b
+
+pub noted_none : (o : Option (List Bool)) → NotesAll [] o o
+noted_none None = tt
+noted_none (Some x) = sym (append_nil x) where
+  append_nil : (xs : List Bool) → xs ++ [] ≡ xs
+  append_nil [] = refl
+  append_nil (y ∷ ys) = ap (λ zs. y ∷ zs) (append_nil ys)
+
+noted_one : (ok : Bool) (o o' : Option (List Bool)) → Notes o o' ok → NotesAll (ok ∷ []) o o'
+noted_one ok o None h = tt
+noted_one ok None (Some y) h = h
+noted_one ok (Some x) (Some y) h = h
+
+-- no call
+pub asks_none : (f r : ℕ) (o : Option (List Bool)) → Asks [] f f r r o o
+asks_none f r o = record { counted = omega arith; noted = noted_none o; failed = omega arith; later = omega arith }
+
+-- some calls, and then some more
+pub asks_both : (a b : List Bool) (f f' f'' r r' r'' : ℕ) (o o' o'' : Option (List Bool)) → Asks a f f' r r' o o' → Asks b f' f'' r' r'' o' o'' → Asks (a ++ b) f f'' r r'' o o''
+asks_both a b f f' f'' r r' r'' o o' o'' h k =
+    let n = length-append a b in
+    let m = failures_both a b in
+    record {
+      counted = rw n (let e = h.counted in let e' = k.counted in omega arith);
+      noted = noted_both a b o o' o'' h.noted k.noted;
+      failed = rw m (let e = h.failed in let e' = k.failed in let l = h.later in let l' = k.later in omega arith);
+      later = let l = h.later in let l' = k.later in omega arith;
+    }
+
+-- a call that was answered
+pub asks_answered : (f f' r r' : ℕ) (o o' : Option (List Bool)) → f ≤ f' → r' ≡ one_more r → Notes o o' true → Asks (true ∷ []) f f' r r' o o'
+asks_answered f f' r r' o o' l e h = record { counted = e; noted = noted_one true o o' h; failed = omega arith; later = l }
+
+-- a call that failed
+pub asks_failed : (f f' r r' : ℕ) (o o' : Option (List Bool)) → f ≤ f' → Rose f f' → r' ≡ one_more r → Notes o o' false → Asks (false ∷ []) f f' r r' o o'
+asks_failed f f' r r' o o' l g e h = record { counted = e; noted = noted_one false o o' h; failed = omega arith; later = l }
+
+pub replicate_more : (n : ℕ) → replicate n false ++ false ∷ [] ≡ replicate (n + 1) false
+replicate_more zero = refl
+replicate_more (suc n) = let e : suc (n + 1) ≡ suc n + 1 = omega arith in ap (λ xs. false ∷ xs) (replicate_more n) ∙ ap (λ m. replicate m false) e
