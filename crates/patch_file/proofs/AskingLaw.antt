@@ -1,14 +1,12 @@
 -- Calls that ask a store, one after another.
-use Rattle.std.proofs.Common.{◌≡◌, ℕ, zero, suc, ◌+◌, ◌-◌, ◌^◌, ◌<◌, ◌≤◌, min, max, Bool, true, false, not, List, [], ◌∷◌, ◌++◌, length, replicate, refl, sym, ◌∙◌, ap, subst, arith, Option, Some, None, append_assoc, length-append}
-use Rattle.std.specs.Prelude.{count_by}
+use Rattle.std.proofs.Common.{◌≡◌, ℕ, zero, suc, ◌+◌, ◌-◌, ◌^◌, ◌<◌, ◌≤◌, min, max, Bool, true, false, cond, not, List, [], ◌∷◌, ◌++◌, length, replicate, refl, sym, ◌∙◌, ap, subst, arith, Option, Some, None, append_assoc, length-append}
+use Rattle.std.proofs.lemmas.List.Sums.{sum_by-append}
 use Rattle.tpz_io.specs.Causes.{Rose, one_more}
 use Rattle.tpz_io.specs.Told.{Notes}
 use Rattle.patch_file.specs.Asking.{risen, RoseBy, NotesAll, failures, Asks, IsTried, HasTried}
 
 pub failures_both : (a b : List Bool) → failures (a ++ b) ≡ failures a + failures b
-failures_both [] b = omega arith
-failures_both (true ∷ a) b = failures_both a b
-failures_both (false ∷ a) b = let e = failures_both a b in omega arith
+failures_both a b = sum_by-append (λ x. cond (not x) 1 0) a b
 
 noted_both : (a b : List Bool) (o o' o'' : Option (List Bool)) → NotesAll a o o' → NotesAll b o' o'' → NotesAll (a ++ b) o o''
 noted_both a b o o' None h k = tt
@@ -55,3 +53,23 @@ asks_failed f f' r r' o o' l g e h = record { counted = e; noted = noted_one fal
 pub replicate_more : (n : ℕ) → replicate n false ++ false ∷ [] ≡ replicate (n + 1) false
 replicate_more zero = refl
 replicate_more (suc n) = let e : suc (n + 1) ≡ suc n + 1 = omega arith in ap (λ xs. false ∷ xs) (replicate_more n) ∙ ap (λ m. replicate m false) e
+
+-- after n calls that failed, one more is answered
+pub tried_answered : (tries n f f' f'' r r' r'' : ℕ) (o o' o'' : Option (List Bool)) → n < tries → Asks (replicate n false) f f' r r' o o' → f' ≤ f'' → r'' ≡ one_more r' → Notes o' o'' true
+    → HasTried tries true f f'' r r'' o o''
+tried_answered tries n f f' f'' r r' r'' o o' o'' few h l e k = record {
+  answers = replicate n false ++ true ∷ [];
+  tried = (n, few, refl);
+  asked = asks_both (replicate n false) (true ∷ []) f f' f'' r r' r'' o o' o'' h (asks_answered f' f'' r' r'' o' o'' l e k);
+}
+
+-- after n calls that failed, one more fails
+pub tried_failed : (n f f' f'' r r' r'' : ℕ) (o o' o'' : Option (List Bool)) → Asks (replicate n false) f f' r r' o o' → f' ≤ f'' → Rose f' f'' → r'' ≡ one_more r' → Notes o' o'' false
+    → Asks (replicate (n + 1) false) f f'' r r'' o o''
+tried_failed n f f' f'' r r' r'' o o' o'' h l g e k =
+    subst (λ a. Asks a f f'' r r'' o o'') (replicate_more n)
+    (asks_both (replicate n false) (false ∷ []) f f' f'' r r' r'' o o' o'' h (asks_failed f' f'' r' r'' o' o'' l g e k))
+
+-- all calls failed
+pub tried_out : (tries n f f' r r' : ℕ) (o o' : Option (List Bool)) → n ≡ tries → Asks (replicate n false) f f' r r' o o' → HasTried tries false f f' r r' o o'
+tried_out tries n f f' r r' o o' e h = record { answers = replicate n false; tried = ap (λ m. replicate m false) e; asked = h }

@@ -10,3 +10,4 @@ pub mod Numbers
 pub mod Items
 pub mod AskingLaw
 pub mod BlockForm
+pub mod HeadLaw

@@ -12,8 +12,9 @@ pub(crate) fn ask_len<B: Blob>(store: &mut B, tries: u32) -> Result<u64, Failed>
     ensures tried { HasTried tries (is_ok result) (B.faults store.old) (B.faults store.new) (B.reads store.old) (B.reads store.new) (B.outcomes store.old) (B.outcomes store.new) }
 {
     'tries: for _ in 0..tries {
-        if let Ok(len) = store.len() {
-            return Ok(len);
+        match store.len() {
+            Ok(len) => return Ok(len),
+            Err(_) => continue,
         }
     }
     Err(Failed)
@@ -32,8 +33,9 @@ pub(crate) fn ask<B: Blob>(
     ensures tried { HasTried tries (is_ok result) (B.faults store.old) (B.faults store.new) (B.reads store.old) (B.reads store.new) (B.outcomes store.old) (B.outcomes store.new) }
 {
     'tries: for _ in 0..tries {
-        if store.read_at(at, into).is_ok() {
-            return Ok(());
+        match store.read_at(at, into) {
+            Ok(()) => return Ok(()),
+            Err(_) => continue,
         }
     }
     Err(Failed)

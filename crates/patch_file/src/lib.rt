@@ -4,6 +4,8 @@
 mod asking;
 mod block;
 mod encode;
+mod entry;
+mod head;
 mod item;
 mod law;
 mod number;
