@@ -187,7 +187,6 @@ module _ (l : ℕ) where
         let no : ◌≡◌ {A = Result X ℕ} (Err whole) (Ok x) = sym (ap (λ (b : Bool). cond b (Err whole) (Ok r.item)) t) ∙ k in
         absurd (never no)
 
-
   -- a block that is read is right, and its contents take as many bytes as there are
   pub block_form : (n : ℕ) (bs : Bytes) (c : Contents) → AreBytes bs → block_of l n bs ≡ Ok c → (is_right_block l n c ≡ true) × (length (contents_bytes c) ≡ length bs)
   block_form n bs c a h =
@@ -198,16 +197,17 @@ module _ (l : ℕ) where
       let e = ended Contents (length bs) (record { item = record { patches = r.item; moves = s.item }; at = s.at; rest = s.rest }) c two.2 in
       let i = patches_form n 0 bs r a one.1 in
       let j = counted_form 24 move_at (is_right_move l) r.at r.rest s i.small two.1 in
-      let is : ◌≡◌ {A = Contents} (record { patches = r.item; moves = s.item }) c = e.1 in
-      (subst (λ (c : Contents). is_right_block l n c ≡ true) is
-      (and_from (length r.item == n) _ (eq-eqb (length r.item) n i.count) (and_from (list_all (is_right_patch l) r.item) _ i.holds (and_from _ _ j.few j.holds))),
-      ap (λ (c : Contents). length (contents_bytes c)) (sym is)
-      ∙ (let both = length-append (flat_map patch_bytes r.item) (counted move_bytes s.item) in
-      let m = counted_long 24 move_bytes (λ t. refl) s.item in
-      let g = i.long in
-      let k = j.long in
-      let z = e.0 in
-      omega arith))
+      let is : ◌≡◌ {A = Contents} (record { patches = r.item; moves = s.item }) c = e.1 in (
+        subst (λ (c : Contents). is_right_block l n c ≡ true) is
+            (and_from (length r.item == n) _ (eq-eqb (length r.item) n i.count) (and_from (list_all (is_right_patch l) r.item) _ i.holds (and_from _ _ j.few j.holds))),
+        ap (λ (c : Contents). length (contents_bytes c)) (sym is)
+            ∙ (let both = length-append (flat_map patch_bytes r.item) (counted move_bytes s.item) in
+            let m = counted_long 24 move_bytes (λ t. refl) s.item in
+            let g = i.long in
+            let k = j.long in
+            let z = e.0 in
+            omega arith),
+      )
 
   -- patches of a base that is read are six and right
   pub base_form : (bs : Bytes) (ps : List Mesh) → AreBytes bs → base_of l bs ≡ Ok ps → (length ps ≡ 6) × (list_all (is_right_patch l) ps ≡ true)

@@ -11,3 +11,4 @@ pub mod Items
 pub mod AskingLaw
 pub mod BlockForm
 pub mod HeadLaw
+pub mod EntryLaw

@@ -1,10 +1,11 @@
 -- What a reader of a store holds, and the bytes that it is one of.
-use Rattle.std.specs.Prelude.{◌≡◌, ◌≤◌, ℕ, ◌+◌, ◌*◌, ◌^◌, Bool, true, false, not, List, [], ◌++◌, length, take, drop, map, find, flat_map, nat_lt, ◌==◌, Option, None, Result, Ok, Err, slice_range}
+use Rattle.std.specs.Prelude.{◌≡◌, ◌≤◌, ℕ, ◌+◌, ◌*◌, ◌^◌, Bool, true, false, not, List, [], ◌++◌, length, take, drop, map, find, flat_map, nat_lt, ◌==◌, if◌then◌else◌, suc, Option, None, Result, Ok, Err, slice_range}
 use Rattle.std.specs.Option.{ForSome, option_map_or}
-use Rattle.std.specs.List.{slice_get}
+use Rattle.std.specs.List.{slice_get, range_with_len}
 use Rattle.tpz_base.specs.Meshes.{Mesh}
 use Rattle.tpz_base.specs.Tetrahedra.{members}
 use Rattle.tetra_name.specs.Names.{point_of, IsBound}
+use Rattle.diamond_graph.specs.declared.record.Record.{Record}
 use Rattle.diamond_graph.specs.Graphs.{GraphState}
 use Rattle.patch_file.specs.declared.shape.Params.{Params}
 use Rattle.patch_file.specs.declared.head.Head.{Head}
@@ -13,7 +14,7 @@ use Rattle.patch_file.specs.declared.entry.Place.{Place}
 use Rattle.patch_file.specs.Tables.{Contents}
 use Rattle.patch_file.specs.Bytes.{Bytes, patch_bytes, move_bytes, counted}
 use Rattle.patch_file.specs.Blocks.{number_at, block_of}
-use Rattle.patch_file.specs.Stores.{level_bits, record_count, base_at, total, numbers, record_at, records_of, block_at, block_length, header_fields, table_of, read}
+use Rattle.patch_file.specs.Stores.{level_bits, record_count, records_end, base_at, total, numbers, record_at, records_of, block_at, block_length, header_fields, record_fields, table_of, read}
 
 -- the bytes of a block with these contents
 abbrev pub contents_bytes : Contents → Bytes
@@ -60,9 +61,19 @@ pub record IsEntryOf (bs : Bytes) (i : ℕ) (entry : Entry) : Type 0 where
   pub offset : entry.offset ≡ block_at bs i
   pub len : entry.len ≡ block_length bs i
 
+-- where the block of a record has to begin: behind that of the next record, and the last one's behind the records
+abbrev pub block_begin : Bytes → ℕ → ℕ
+block_begin bs i = if suc i == record_count bs then records_end bs else block_at bs (suc i) + block_length bs (suc i)
+
 -- the centre of a record, and the place and the length of its block
 abbrev pub place_in : Bytes → ℕ → Place
 place_in bs i = record { centre = (record_at bs i).centre; offset = block_at bs i; len = block_length bs i }
+
+-- the first n records of these bytes, with the places of their blocks, have no field that isn't allowed
+pub record AreEntriesOf (bs : Bytes) (n : ℕ) (records : List Record) (places : List Place) : Type 0 where
+  pub records_are : records ≡ map (record_at bs) (range_with_len 0 n)
+  pub places_are : places ≡ map (place_in bs) (range_with_len 0 n)
+  pub fields : find (λ (f : ℕ × Bool). not f.1) (flat_map (record_fields bs) (range_with_len 0 n)) ≡ None
 
 -- the header's params, where each record's block lies, the base and the length of the whole
 pub record ReaderState : Type 0 where

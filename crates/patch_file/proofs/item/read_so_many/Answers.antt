@@ -21,7 +21,6 @@ moves-preserved c =
     record {
       few = omega arith;
       place = c.in-Some.ensures.room;
-
       so_far = item_more 24 move_at (is_right_move c.args.l) (c.args.count - vec_len c.push.new.self) n before c.moves.at _ c.in-Some.m c.moves.moves.items _ _ left c.moves.invariant.so_far c.in-Some.ensures.item
           ∙ ap (λ (xs : List Move). behind xs (read_items 24 move_at (is_right_move c.args.l) (c.args.count - vec_len c.push.new.self) (Some c.in-Some.m) (c.moves.at + 24) (drop (c.moves.at + 24) c.args.bytes.now))) (sym items);
     }
