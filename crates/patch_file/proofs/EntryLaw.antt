@@ -198,3 +198,12 @@ place_is bs i entry e = rw (e.record_is, e.offset, e.len) refl
 -- a refusal that is one at an offset
 pub same_offset : {X : Type 0} (a b : ℕ) → ◌≡◌ {A = Result X ItemFault} (Err (Bad a)) (Err (Bad b)) → ◌≡◌ {A = Option ℕ} (Some a) (Some b)
 same_offset a b e = let f : a ≡ b = cc in cc
+
+-- .. and where its block ends
+pub placed_from : (head : Head) (i : ℕ) (entry : Entry) (begin : ℕ) → wrong (entry_fields head i entry begin) ≡ None → entry.offset + entry.len ≤ head.base
+placed_from head i entry begin h =
+    let end = entry.offset + entry.len in
+    let long : Bool = nat_le (4 * (2 * count_of head.params.l (point_of entry.record.centre)) + 4) entry.len in
+    let last : Bool = nat_lt 0 i || end == head.base in
+    let a : long && (nat_le end head.base && last) ≡ true = allowed_at (entry_fields head i entry begin) 6 h (omega arith) in
+    leb-true end head.base (and_parts (nat_le end head.base) last (and_parts long (nat_le end head.base && last) a).1).0

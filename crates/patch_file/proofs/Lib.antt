@@ -12,3 +12,4 @@ pub mod AskingLaw
 pub mod BlockForm
 pub mod HeadLaw
 pub mod EntryLaw
+pub mod OpeningLaw

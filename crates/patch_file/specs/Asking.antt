@@ -1,5 +1,5 @@
 -- What calls that ask a store leave: counts, outcomes, and what was failed.
-use Rattle.std.specs.Prelude.{◌≡◌, ◌≤◌, ◌<◌, ◌+◌, ◌-◌, ◌^◌, ℕ, min, max, Bool, true, false, not, List, [], ◌∷◌, ◌++◌, length, replicate, count_by}
+use Rattle.std.specs.Prelude.{◌≡◌, ◌≤◌, ◌<◌, ◌+◌, ◌-◌, ◌*◌, ◌^◌, ℕ, min, max, Bool, true, false, not, List, [], ◌∷◌, ◌++◌, length, replicate, count_by}
 use Rattle.std.specs.declared.option.Option.{Option}
 use Rattle.std.specs.declared.option.Option.TheVariants.{None, Some}
 
@@ -37,3 +37,11 @@ pub record HasTried (tries : ℕ) (answered : Bool) (faults faults' reads reads'
   pub answers : List Bool
   pub tried : IsTried tries answered answers
   pub asked : Asks answers faults faults' reads reads' outcomes outcomes'
+
+-- At most so many calls were tried, one after another: all were answered, or the last one failed to the end.
+pub record HasAsked (tries calls : ℕ) (answered spent : Bool) (faults faults' reads reads' : ℕ) (outcomes outcomes' : Option (List Bool)) : Type 0 where
+  pub answers : List Bool
+  pub asked : Asks answers faults faults' reads reads' outcomes outcomes'
+  pub few : length answers ≤ calls * tries
+  pub all_answered : answered ≡ true → length answers ≡ calls + failures answers
+  pub all_failed : spent ≡ true → (front : List Bool) × (answers ≡ front ++ replicate tries false)

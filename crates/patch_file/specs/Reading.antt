@@ -1,13 +1,19 @@
 -- What a reader of a store holds, and the bytes that it is one of.
-use Rattle.std.specs.Prelude.{◌≡◌, ◌≤◌, ℕ, ◌+◌, ◌*◌, ◌^◌, Bool, true, false, not, List, [], ◌++◌, length, take, drop, map, find, flat_map, nat_lt, ◌==◌, if◌then◌else◌, suc, Option, None, Result, Ok, Err, slice_range}
-use Rattle.std.specs.Option.{ForSome, option_map_or}
+use Rattle.std.specs.Prelude.{◌≡◌, ◌≤◌, ℕ, ◌+◌, ◌*◌, ◌^◌, Bool, true, false, not, List, [], ◌++◌, length, take, drop, map, find, flat_map, nat_lt, ◌==◌, if◌then◌else◌, suc, Option, None, Some, Result, Ok, Err, slice_range}
+use Rattle.std.specs.Option.{ForSome, option_map, option_map_or, option_or}
 use Rattle.std.specs.List.{slice_get, range_with_len}
 use Rattle.tpz_base.specs.Meshes.{Mesh}
 use Rattle.tpz_base.specs.Tetrahedra.{members}
 use Rattle.tetra_name.specs.Names.{point_of, IsBound}
 use Rattle.diamond_graph.specs.declared.record.Record.{Record}
+use Rattle.diamond_graph.specs.Closed.{CanSplit}
+use Rattle.diamond_graph.specs.Saturated.{first_out_of_order, first_not_closed, first_not_saturated}
 use Rattle.diamond_graph.specs.Graphs.{GraphState}
 use Rattle.patch_file.specs.declared.shape.Params.{Params}
+use Rattle.patch_file.specs.declared.shape.StoreBad.{StoreBad}
+use Rattle.patch_file.specs.declared.shape.StoreBad.TheVariants.{Order, NotClosed, NotSaturated}
+use Rattle.patch_file.specs.declared.fault.OpenFault.{OpenFault}
+use Rattle.patch_file.specs.declared.fault.OpenFault.TheVariants.{Bad, ReadFault, Memory}
 use Rattle.patch_file.specs.declared.head.Head.{Head}
 use Rattle.patch_file.specs.declared.entry.Entry.{Entry}
 use Rattle.patch_file.specs.declared.entry.Place.{Place}
@@ -69,6 +75,11 @@ block_begin bs i = if suc i == record_count bs then records_end bs else block_at
 abbrev pub place_in : Bytes → ℕ → Place
 place_in bs i = record { centre = (record_at bs i).centre; offset = block_at bs i; len = block_length bs i }
 
+-- a block of a diamond that can be split, which ends by a place
+pub record IsPlaced (l end : ℕ) (place : Place) : Type 0 where
+  pub can_split : CanSplit l (point_of place.centre)
+  pub within : place.offset + place.len ≤ end
+
 -- the first n records of these bytes, with the places of their blocks, have no field that isn't allowed
 pub record AreEntriesOf (bs : Bytes) (n : ℕ) (records : List Record) (places : List Place) : Type 0 where
   pub records_are : records ≡ map (record_at bs) (range_with_len 0 n)
@@ -95,6 +106,13 @@ reader_of bs base = record {
 abbrev pub graph_of : Bytes → GraphState
 graph_of bs = record { l = level_bits bs; records = records_of bs; tests = 0 }
 
+-- Bytes of this length stand at a place of the store, where it tells its own, and P holds of all bytes in which they stand there.
+pub record HasPiece (told : Option Bytes) (at len : ℕ) (P : Bytes → Type 0) : Type 0 where
+  pub piece : Bytes
+  pub size : length piece ≡ len
+  pub held : ForSome told (λ bs. IsPiece bs at piece)
+  pub all : (bs : Bytes) → IsPiece bs at piece → P bs
+
 -- Some bytes, which are the store's where it tells its own, are read as a table, and the reader and the graph are those of these bytes.
 pub record IsOpened (told : Option Bytes) (opened : ReaderState) (records : GraphState) : Type 0 where
   pub bytes : Bytes
@@ -102,3 +120,15 @@ pub record IsOpened (told : Option Bytes) (opened : ReaderState) (records : Grap
   pub read : read bytes ≡ Ok (table_of bytes opened.base.patches)
   pub reader : opened ≡ reader_of bytes opened.base.patches
   pub graph : records ≡ graph_of bytes
+
+-- a call failed as often as it was to be tried
+abbrev pub is_spent : {T : Type 0} → Result T OpenFault → Bool
+is_spent (Ok x) = false
+is_spent (Err (Bad bad)) = false
+is_spent (Err ReadFault) = true
+is_spent (Err Memory) = false
+
+-- the first fault of the records is told as this refusal
+abbrev pub RefusesGraph : ℕ → List Record → StoreBad → Type 0
+RefusesGraph l records bad =
+    option_or (option_map Order (first_out_of_order l records)) (option_or (option_map NotClosed (first_not_closed l records)) (option_map NotSaturated (first_not_saturated l records))) ≡ Some bad

@@ -5,12 +5,15 @@ mod asking;
 mod block;
 mod encode;
 mod entry;
+mod fault;
 mod head;
 mod item;
 mod law;
 mod number;
+mod opening;
 mod shape;
 
 pub use block::Block;
+pub use fault::{BlockFault, OpenFault};
 pub use law::store_law;
 pub use shape::{Params, StoreBad};

@@ -7,7 +7,7 @@ use Rattle.std.proofs.lemmas.List.Elements.{All-push}
 use Rattle.diamond_graph.specs.Graphs.{IsStored}
 use Rattle.patch_file.specs.declared.entry.Place.{Place}
 use Rattle.patch_file.specs.Stores.{record_at, record_fields}
-use Rattle.patch_file.specs.Reading.{place_in, AreEntriesOf}
+use Rattle.patch_file.specs.Reading.{place_in, IsPlaced, AreEntriesOf}
 use Rattle.patch_file.proofs.HeadLaw.{wrong, no_map}
 use Rattle.patch_file.proofs.EntryLaw.{fields_bad, entries_more, place_is, same_offset}
 use Rattle.patch_file.proofs.entry.read_entries.Goals as goal
@@ -31,6 +31,9 @@ entries-preserved c =
     let more : c.push-in-entries.new.self.items ≡ places ++ (record { centre = entry.record.centre; offset = entry.offset; len = entry.len }) ∷ [] = search rules in
     record {
       stored = subst (λ (xs : List Record). All (IsStored c.args.head.now.params.l) xs) (sym items) (All-push (IsStored c.args.head.now.params.l) old entry.record c.entries.invariant.stored (c.wrong_field.ensures.stored none));
+      placed = subst (λ (qs : List Place). All (IsPlaced c.args.head.now.params.l c.args.head.now.base) qs) (sym more) (All-push (IsPlaced c.args.head.now.params.l c.args.head.now.base) places _ c.entries.invariant.placed
+          (record { can_split = (c.wrong_field.ensures.stored none).can_split; within = c.wrong_field.ensures.placed none }));
+      same_count = let n = c.entries.invariant.same_count in let f = ap length more in let g = length_push places (record { centre = entry.record.centre; offset = entry.offset; len = entry.len }) in omega arith;
       count = let n = c.entries.invariant.count in let f = ap length items in let g = length_push old entry.record in omega arith;
       so_far = λ bs h p.
           let e = c.entry_at-entry.ensures bs p in

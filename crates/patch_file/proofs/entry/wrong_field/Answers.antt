@@ -3,7 +3,7 @@ use Rattle.std.specs.Prelude.{option_map, nat_le, nat_lt, ◌==◌, ◌&&◌, �
 use Rattle.tetra_name.specs.Names.{point_of}
 use Rattle.patch_file.specs.Blocks.{is_whole_centre}
 use Rattle.patch_file.proofs.HeadLaw.{wrong, no_map}
-use Rattle.patch_file.proofs.EntryLaw.{entry_fields, entry_fields_are, seen_are, centre_wrong, stored_from}
+use Rattle.patch_file.proofs.EntryLaw.{entry_fields, entry_fields_are, seen_are, centre_wrong, stored_from, placed_from}
 use Rattle.patch_file.proofs.entry.wrong_field.Goals as goal
 use Rattle.patch_file.proofs.entry.wrong_field.Goals.{After-first_wrong}
 
@@ -28,3 +28,6 @@ pub returns-clause-stored : goal.returns-clause-stored
 returns-clause-stored c = λ e.
     let t : c.can_split.result ≡ true = cc in
     stored_from c.args.head.now c.args.i c.args.entry.now c.args.begin (c.can_split.ensures.split t) (no_map (wrong (entry_fields c.args.head.now c.args.i c.args.entry.now c.args.begin)) (sym (found c) ∙ e))
+
+pub returns-clause-placed : goal.returns-clause-placed
+returns-clause-placed c = λ e. placed_from c.args.head.now c.args.i c.args.entry.now c.args.begin (no_map (wrong (entry_fields c.args.head.now c.args.i c.args.entry.now c.args.begin)) (sym (found c) ∙ e))
