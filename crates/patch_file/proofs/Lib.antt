@@ -13,3 +13,6 @@ pub mod BlockForm
 pub mod HeadLaw
 pub mod EntryLaw
 pub mod OpeningLaw
+pub mod Members
+pub mod BlockPlace
+pub mod Opened

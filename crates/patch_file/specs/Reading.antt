@@ -1,5 +1,5 @@
 -- What a reader of a store holds, and the bytes that it is one of.
-use Rattle.std.specs.Prelude.{◌≡◌, ◌≤◌, ℕ, ◌+◌, ◌*◌, ◌^◌, Bool, true, false, not, List, [], ◌++◌, length, take, drop, map, find, flat_map, nat_lt, ◌==◌, if◌then◌else◌, suc, Option, None, Some, Result, Ok, Err, slice_range}
+use Rattle.std.specs.Prelude.{◌≡◌, ◌≤◌, ◌<◌, All, ℕ, ◌+◌, ◌*◌, ◌^◌, Bool, true, false, not, List, [], ◌++◌, length, take, drop, map, find, flat_map, nat_lt, ◌==◌, if◌then◌else◌, suc, Option, None, Some, Result, Ok, Err, slice_range}
 use Rattle.std.specs.Option.{ForSome, option_map, option_map_or, option_or}
 use Rattle.std.specs.List.{slice_get, range_with_len}
 use Rattle.tpz_base.specs.Meshes.{Mesh}
@@ -14,6 +14,8 @@ use Rattle.patch_file.specs.declared.shape.StoreBad.{StoreBad}
 use Rattle.patch_file.specs.declared.shape.StoreBad.TheVariants.{Order, NotClosed, NotSaturated}
 use Rattle.patch_file.specs.declared.fault.OpenFault.{OpenFault}
 use Rattle.patch_file.specs.declared.fault.OpenFault.TheVariants.{Bad, ReadFault, Memory}
+use Rattle.patch_file.specs.declared.fault.BlockFault.{BlockFault}
+use Rattle.patch_file.specs.declared.fault.BlockFault.TheVariants.{Bad as BlockBad, Failed as BlockFailed, Memory as BlockMemory}
 use Rattle.patch_file.specs.declared.head.Head.{Head}
 use Rattle.patch_file.specs.declared.entry.Entry.{Entry}
 use Rattle.patch_file.specs.declared.entry.Place.{Place}
@@ -132,3 +134,25 @@ is_spent (Err Memory) = false
 abbrev pub RefusesGraph : ℕ → List Record → StoreBad → Type 0
 RefusesGraph l records bad =
     option_or (option_map Order (first_out_of_order l records)) (option_or (option_map NotClosed (first_not_closed l records)) (option_map NotSaturated (first_not_saturated l records))) ≡ Some bad
+
+-- two patches a member of the diamond
+abbrev pub patches_of : ℕ → Place → ℕ
+patches_of l place = 2 * length (members l (point_of place.centre))
+
+-- what the bytes of a block at its place hold, or the offset in it of the first item that isn't right
+abbrev pub block_in : ℕ → Bytes → Place → Result Contents ℕ
+block_in l bs place = block_of l (patches_of l place) (slice_range bs place.offset (place.offset + place.len))
+
+-- the read failed
+abbrev pub has_failed : {T : Type 0} → Result T BlockFault → Bool
+has_failed (Ok x) = false
+has_failed (Err (BlockBad bad)) = false
+has_failed (Err BlockFailed) = true
+has_failed (Err BlockMemory) = false
+
+-- the facts that a reader keeps
+pub record IsReader (reader : ReaderState) : Type 0 where
+  pub bound : IsBound reader.params.l
+  pub placed : All (IsPlaced reader.params.l reader.bytes) reader.places
+  pub few : length reader.places < 2 ^ 32
+  pub short : reader.bytes ≤ 2 ^ 48

@@ -11,9 +11,11 @@ mod item;
 mod law;
 mod number;
 mod opening;
+mod reader;
 mod shape;
 
 pub use block::Block;
 pub use fault::{BlockFault, OpenFault};
 pub use law::store_law;
+pub use reader::StoreReader;
 pub use shape::{Params, StoreBad};
