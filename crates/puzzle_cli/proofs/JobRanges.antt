@@ -1,5 +1,5 @@
 -- The values of a job are in their ranges.
-use Rattle.std.proofs.Common.{◌≡◌, ◌≤◌, ℕ, Bool, true, false, cond, List, [], ◌∷◌, refl, sym, ◌∙◌, ap, subst, inl, inr}
+use Rattle.std.proofs.Common.{◌≡◌, ◌≤◌, ℕ, Bool, true, false, cond, List, [], ◌∷◌, refl, sym, ◌∙◌, ap, subst, arith, inl, inr}
 use Rattle.std.specs.Prelude.{not, ◌&&◌, nat_le, find, IfSome, Option, Some, None, option_map, option_and_then, unwrap_or}
 use Rattle.std.specs.List.{list_all}
 use Rattle.std.specs.Option.{option_map_or}
@@ -11,8 +11,8 @@ use Rattle.tpz_base.proofs.Elements.{at_all}
 use Rattle.ply_head.specs.Numbers.{are_digits, value}
 use Rattle.mesh_gen.specs.Generator.{IsSize}
 use Rattle.puzzle_cli.specs.declared.jobs.Job.{Job}
-use Rattle.puzzle_cli.specs.declared.jobs.Job.TheVariants.{Finest, Gen}
-use Rattle.puzzle_cli.specs.Words.{Command, Given, Setting, asked, are_different, are_options, cap, commands, digits, finest, gen, given_in, is_met, is_of, is_value, job_with, number_for, size, text_for}
+use Rattle.puzzle_cli.specs.declared.jobs.Job.TheVariants.{Finest, Gen, Info}
+use Rattle.puzzle_cli.specs.Words.{Command, Given, Setting, asked, are_different, are_options, cap, commands, digits, finest, gen, given_in, info, is_met, is_of, is_value, job_with, number_for, size, text_for, tries}
 
 -- ---- what is given for an option
 
@@ -90,7 +90,10 @@ digits_within d k c gs m fits job =
           few d (subst (λ o. IfSome o (IsWithin digits)) same (given_within digits (text_for digits gs) (met finest.settings digits gs fits' (inl refl))))
       | inr other ↦ elim other [
         | inl e ↦ absurd (let job' : gen.job gs ≡ Finest d k = subst (λ (x : Command). x.job gs ≡ Finest d k) (sym e) job in cc)
-        | inr none ↦ absurd none
+        | inr last ↦ elim last [
+          | inl e ↦ absurd (let job' : info.job gs ≡ Finest d k = subst (λ (x : Command). x.job gs ≡ Finest d k) (sym e) job in cc)
+          | inr none ↦ absurd none
+        ]
       ]
     ]
   where
@@ -113,13 +116,41 @@ size_within n c gs m fits job =
             let same : unwrap_or (number_for size gs) 0 ≡ n = cc in
             let range = subst (IsWithin size) same (needed_within size (text_for size gs) refl (met gen.settings size gs fits' (inl refl))) in
             record { least = range.0; most = range.1 }
-        | inr none ↦ absurd none
+        | inr last ↦ elim last [
+          | inl e ↦ absurd (let job' : info.job gs ≡ Gen n = subst (λ (x : Command). x.job gs ≡ Gen n) (sym e) job in cc)
+          | inr none ↦ absurd none
+        ]
       ]
     ]
 
 -- the size that words ask for is one of a mesh
 pub asked_size : (words : List Bytes) (n : ℕ) → asked words ≡ Some (Gen n) → IsSize n
 asked_size words n is = let a = asked_for words (Gen n) is in size_within n a.command a.given a.is_there a.fits a.job
+
+or_three_within : (o : Option ℕ) → IfSome o (IsWithin tries) → (1 ≤ unwrap_or o 3) × (unwrap_or o 3 ≤ 100)
+or_three_within None h = (omega arith, omega arith)
+or_three_within (Some n) h = h
+
+tries_within : (n : ℕ) (c : Command) (gs : List Given) → Member commands c → are_options c.settings gs ≡ true → c.job gs ≡ Info n → (1 ≤ n) × (n ≤ 100)
+tries_within n c gs m fits job =
+    elim m [
+      | inl e ↦ absurd (let job' : finest.job gs ≡ Info n = subst (λ (x : Command). x.job gs ≡ Info n) (sym e) job in cc)
+      | inr other ↦ elim other [
+        | inl e ↦ absurd (let job' : gen.job gs ≡ Info n = subst (λ (x : Command). x.job gs ≡ Info n) (sym e) job in cc)
+        | inr last ↦ elim last [
+          | inl e ↦
+              let fits' : are_options info.settings gs ≡ true = subst (λ (x : Command). are_options x.settings gs ≡ true) (sym e) fits in
+              let job' : info.job gs ≡ Info n = subst (λ (x : Command). x.job gs ≡ Info n) (sym e) job in
+              let same : unwrap_or (number_for tries gs) 3 ≡ n = cc in
+              subst (λ k. (1 ≤ k) × (k ≤ 100)) same (or_three_within (number_for tries gs) (given_within tries (text_for tries gs) (met info.settings tries gs fits' (inl refl))))
+          | inr none ↦ absurd none
+        ]
+      ]
+    ]
+
+-- the tries that words ask for are 1 to 100
+pub asked_tries : (words : List Bytes) (n : ℕ) → asked words ≡ Some (Info n) → (1 ≤ n) × (n ≤ 100)
+asked_tries words n is = let a = asked_for words (Info n) is in tries_within n a.command a.given a.is_there a.fits a.job
 
 -- words ask for one job
 pub one_job : (o : Option Job) (i j : Job) → o ≡ Some i → o ≡ Some j → i ≡ j

@@ -17,3 +17,4 @@ pub mod Givens
 pub mod Spellings
 pub mod OptionWalks
 pub mod OptionTables
+pub mod InfoLemmas

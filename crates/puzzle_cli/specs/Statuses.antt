@@ -8,8 +8,14 @@ use Rattle.ply_body.specs.declared.fault.BodyFault.TheVariants as body
 use Rattle.ply_body.specs.Inputs.{Refusal, InHead, InBody}
 use Rattle.split_pass.specs.declared.fault.SplitFault.{SplitFault}
 use Rattle.split_pass.specs.declared.fault.SplitFault.TheVariants as split
+use Rattle.patch_file.specs.declared.shape.StoreBad.{StoreBad}
+use Rattle.patch_file.specs.declared.shape.StoreBad.TheVariants as bad
+use Rattle.patch_file.specs.declared.fault.OpenFault.{OpenFault}
+use Rattle.patch_file.specs.declared.fault.OpenFault.TheVariants as opening
 use Rattle.puzzle_cli.specs.declared.status.Status.{Status}
-use Rattle.puzzle_cli.specs.declared.status.Status.TheVariants.{Ok, Usage, BadInput, Extent, InputFault, WorkFault, WorkDamage, TooManyRecords, OutFault, Memory}
+use Rattle.puzzle_cli.specs.declared.status.Status.TheVariants.{Ok, Usage, BadInput, Extent, InputFault, WorkFault, WorkDamage, TooManyRecords, BadStore, ReadFault, OutFault, Memory}
+use Rattle.puzzle_cli.specs.declared.status.ReadAt.{ReadAt}
+use Rattle.puzzle_cli.specs.declared.status.ReadAt.TheVariants as read_at
 use Rattle.puzzle_cli.specs.declared.status.InputKind.{InputKind}
 use Rattle.puzzle_cli.specs.declared.status.InputKind.TheVariants as kind
 use Rattle.puzzle_cli.specs.declared.status.Place.{Place}
@@ -23,6 +29,8 @@ code_of (Extent axis least greatest) = 4
 code_of InputFault = 5
 code_of WorkFault = 8
 code_of (WorkDamage offset) = 9
+code_of (BadStore why) = 12
+code_of (ReadFault at) = 13
 code_of OutFault = 14
 code_of Memory = 16
 code_of TooManyRecords = 22
@@ -48,6 +56,21 @@ abbrev pub place_text : Place → List ℕ
 place_text (Line line) = codes "line " ++ decimal line
 place_text (Row element row) = codes "element " ++ (decimal element ++ (codes " row " ++ decimal row))
 
+-- the name of a refusal of a store, and its numbers
+abbrev pub bad_text : StoreBad → List ℕ
+bad_text (bad.Short len) = codes "Short " ++ decimal len
+bad_text bad.Magic = codes "Magic"
+bad_text (bad.Unfinished gate) = codes "Unfinished " ++ decimal gate
+bad_text (bad.Field offset) = codes "Field " ++ decimal offset
+bad_text (bad.Order rec) = codes "Order " ++ decimal rec
+bad_text (bad.NotClosed rec) = codes "NotClosed " ++ decimal rec
+bad_text (bad.NotSaturated rec) = codes "NotSaturated " ++ decimal rec
+bad_text (bad.BadBlock rec offset) = codes "BadBlock " ++ (decimal rec ++ (codes " " ++ decimal offset))
+
+abbrev pub read_at_text : ReadAt → List ℕ
+read_at_text read_at.Head = codes "head"
+read_at_text (read_at.Record rec) = codes "record " ++ decimal rec
+
 abbrev pub line_of : Status → List ℕ
 line_of Ok = codes ""
 line_of Usage = codes "tpz: usage: tpz FOLDER COMMAND [--NAME VALUE]"
@@ -57,9 +80,17 @@ line_of (Extent axis least greatest) =
 line_of InputFault = codes "tpz: input failed"
 line_of WorkFault = codes "tpz: work file failed"
 line_of (WorkDamage offset) = codes "tpz: work file damaged at " ++ decimal offset
+line_of (BadStore why) = codes "tpz: bad store: " ++ bad_text why
+line_of (ReadFault at) = codes "tpz: store read failed at " ++ read_at_text at
 line_of OutFault = codes "tpz: output failed"
 line_of Memory = codes "tpz: out of memory"
 line_of TooManyRecords = codes "tpz: too many records"
+
+-- the status of a store that isn't opened
+abbrev pub open_status : OpenFault → Status
+open_status (opening.Bad b) = BadStore b
+open_status opening.ReadFault = ReadFault read_at.Head
+open_status opening.Memory = Memory
 
 -- The status of each fault of the header and of the rows.
 abbrev pub head_status : HeadFault → Status

@@ -6,7 +6,7 @@ use Rattle.std.specs.Str.{bytes_eq}
 use Rattle.tpz_base.specs.Texts.{Bytes}
 use Rattle.ply_head.specs.Numbers.{are_digits, value}
 use Rattle.puzzle_cli.specs.declared.jobs.Job.{Job}
-use Rattle.puzzle_cli.specs.declared.jobs.Job.TheVariants.{Finest, Gen}
+use Rattle.puzzle_cli.specs.declared.jobs.Job.TheVariants.{Finest, Gen, Info}
 
 -- ---- the options that words spell
 
@@ -112,6 +112,9 @@ cap = record { name = codes "cap"; least = 1; greatest = 16777216; is_required =
 abbrev pub size : Setting
 size = record { name = codes "size"; least = 1; greatest = 500; is_required = true }
 
+abbrev pub tries : Setting
+tries = record { name = codes "tries"; least = 1; greatest = 100; is_required = false }
+
 -- a command, its options, and its job by what is given
 pub record Command : Type 0 where
   pub name : Bytes
@@ -132,8 +135,15 @@ gen = record {
   job = λ gs. Gen (needed_for size gs);
 }
 
+abbrev pub info : Command
+info = record {
+  name = codes "info";
+  settings = tries ∷ [];
+  job = λ gs. Info (unwrap_or (number_for tries gs) 3);
+}
+
 abbrev pub commands : List Command
-commands = finest ∷ gen ∷ []
+commands = finest ∷ gen ∷ info ∷ []
 
 -- the job of a command with the options that the words behind it spell
 abbrev pub job_with : List Bytes → Command → Option Job

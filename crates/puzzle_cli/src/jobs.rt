@@ -2,7 +2,7 @@
 ghost use Rattle.std.specs.Prelude.{◌≡◌, ◌≤◌, ◌↔◌, ◌∷◌, IsTrue, Err, None, Some, List, IfOk, IfSome, map, string_bytes};
 ghost use Rattle.tpz_base.specs.Texts.{Bytes};
 ghost use Rattle.puzzle_cli.specs.declared.jobs.WordsFault.TheVariants.{Usage, Memory};
-ghost use Rattle.puzzle_cli.specs.Words.{Given, Spell, asked, finest, gen, given_in, job_with};
+ghost use Rattle.puzzle_cli.specs.Words.{Given, Spell, asked, finest, gen, given_in, info, job_with};
 
 use crate::options::{Setting, option_number, take_options};
 use std::alloc::{AllocError, Global};
@@ -18,6 +18,8 @@ pub enum Job {
     },
     /// `gen`: how many squares are in a row on each side of the mesh.
     Gen { size: u32 },
+    /// `info`: how often a call of the store is tried.
+    Info { tries: u32 },
 }
 
 /// Why no job was read.
@@ -59,6 +61,13 @@ const SIZE: Setting = Setting {
     is_required: true,
 };
 
+const TRIES: Setting = Setting {
+    name: "tries",
+    least: 1,
+    greatest: 100,
+    is_required: false,
+};
+
 /// The job that the words ask for: a command, compared exactly, and then options of that command, each at most once, as
 /// the two words `--NAME` and `VALUE` or the one word `--NAME=VALUE`. A value is 1 to 10 decimal digits in its range;
 /// leading zeros are allowed. All else is `Usage`, also `--help`, `--version`, `--` and the start of a name.
@@ -83,6 +92,9 @@ fn read_command(alloc: Global, command: &String, words: &[String]) -> Result<Job
     }
     if is_named(command, "gen") {
         return read_gen(alloc, words);
+    }
+    if is_named(command, "info") {
+        return read_info(alloc, words);
     }
     Err(WordsFault::Usage)
 }
@@ -117,6 +129,16 @@ fn read_gen(alloc: Global, words: &[String]) -> Result<Job, WordsFault>
         Some(size) => Ok(Job::Gen { size }),
         None => Err(WordsFault::Usage),
     }
+}
+
+fn read_info(alloc: Global, words: &[String]) -> Result<Job, WordsFault>
+    ensures ok { IfOk result (λ job. job_with (map string_bytes words.now) info ≡ Some job) }
+    ensures usage { result ≡ Err Usage → job_with (map string_bytes words.now) info ≡ None }
+{
+    let settings = [TRIES];
+    let matches = take_options(alloc, &settings, words)?;
+    let tries = option_number(&matches, &TRIES)?.unwrap_or(3);
+    Ok(Job::Info { tries })
 }
 
 // A number below 256 as a byte.

@@ -3,16 +3,19 @@
 
 ghost use Rattle.std.specs.Prelude.{◌≡◌, ◌≤◌, ◌⊎◌, ℕ, Option, false, None, map, string_bytes};
 ghost use Rattle.tpz_io.specs.Causes.{Rose};
+ghost use Rattle.patch_file.specs.Asking.{RoseBy};
 ghost use Rattle.puzzle_cli.specs.Words.{asked};
 ghost use Rattle.puzzle_cli.specs.Touches.{touched_by};
 ghost use Rattle.puzzle_cli.specs.Finest.{AsksFinest};
 ghost use Rattle.puzzle_cli.specs.Gen.{AsksGen};
-ghost use Rattle.puzzle_cli.specs.Runs.{FinestRun, GenRun};
+ghost use Rattle.puzzle_cli.specs.Info.{AsksInfo};
+ghost use Rattle.puzzle_cli.specs.Runs.{FinestRun, GenRun, InfoRun};
 
 mod cut_order;
 mod export;
 mod finest;
 mod generate;
+mod info;
 mod jobs;
 mod numbering;
 mod options;
@@ -27,7 +30,7 @@ mod tests;
 mod words_tests;
 
 pub use jobs::{Job, WordsFault, read_words};
-pub use status::{InputKind, Place, Status};
+pub use status::{InputKind, Place, ReadAt, Status};
 use std::alloc::Global;
 use tpz_io::{Blob, Out, Source};
 
@@ -35,7 +38,7 @@ use tpz_io::{Blob, Out, Source};
 ///
 /// `finest` reads a PLY mesh from `input`, and writes its triangles leaf by leaf as one part of `out`, in the input's
 /// scaled coordinates, and then its note. It keeps the points in `work`, whose bytes it overwrites. `gen` writes a mesh of
-/// a formula as one part of `out`, and then its note. A device that the command doesn't touch is left as it was. No call
+/// a formula as one part of `out`, and then its note. `info` reads the head of `store`, and writes what it says as a note. A device that the command doesn't touch is left as it was. No call
 /// changes whether a device tells its bytes.
 pub fn run<I: Source, C: Source, W: Blob, S: Blob, O: Out>(
     alloc: Global,
@@ -63,12 +66,16 @@ pub fn run<I: Source, C: Source, W: Blob, S: Blob, O: Out>(
         (O.parts out.old) (O.parts out.new) (O.notes out.old) (O.notes out.new) result }
     ensures generated { (size : ℕ) → AsksGen words.now size → GenRun size (Rose (O.faults out.old) (O.faults out.new)) (O.parts out.old) (O.parts out.new) (O.notes out.old) (O.notes out.new) result }
 
+    ensures told { (tries : ℕ) → AsksInfo words.now tries → InfoRun tries (S.held store.old) (S.held store.new) (S.outcomes store.new)
+        (RoseBy tries (S.faults store.old) (S.faults store.new)) (Rose (O.faults out.old) (O.faults out.new))
+        (O.parts out.old) (O.parts out.new) (O.notes out.old) (O.notes out.new) result }
+
     // A device is blamed only where it failed in this call, and a damaged work file is told only of one that tells nothing.
     ensures input_fault { result ≡ Status.InputFault → Rose (I.faults input.old) (I.faults input.new) }
     ensures work_fault { result ≡ Status.WorkFault → Rose (W.faults work.old) (W.faults work.new) }
     ensures work_damage { (offset : ℕ) → result ≡ Status.WorkDamage offset → W.held work.old ≡ None }
     ensures out_fault { result ≡ Status.OutFault → Rose (O.faults out.old) (O.faults out.new) }
-    ensures later { (I.faults input.old ≤ I.faults input.new) × (W.faults work.old ≤ W.faults work.new) × (O.faults out.old ≤ O.faults out.new) }
+    ensures later { (I.faults input.old ≤ I.faults input.new) × (W.faults work.old ≤ W.faults work.new) × (S.faults store.old ≤ S.faults store.new) × (O.faults out.old ≤ O.faults out.new) }
 {
     let job = match read_words(alloc, words) {
         Ok(job) => job,
@@ -78,5 +85,6 @@ pub fn run<I: Source, C: Source, W: Blob, S: Blob, O: Out>(
     match job {
         Job::Finest { digits, cap } => finest::finest(alloc, digits, cap, input, work, out),
         Job::Gen { size } => generate::generate(alloc, size, out),
+        Job::Info { tries } => info::info(alloc, tries, store, out),
     }
 }

@@ -2,8 +2,9 @@
 ghost use Rattle.std.specs.Prelude.{◌≡◌, ◌++◌, IfOk, codes, string_bytes};
 ghost use Rattle.puzzle_cli.specs.declared.status.Status.TheVariants.{BadInput, Memory};
 ghost use Rattle.puzzle_cli.specs.declared.status.Place.TheVariants.{Line, Row};
-ghost use Rattle.puzzle_cli.specs.Statuses.{body_status, head_status, kind_text, place_text, split_status};
+ghost use Rattle.puzzle_cli.specs.Statuses.{bad_text, body_status, head_status, kind_text, open_status, place_text, read_at_text, split_status};
 
+use patch_file::{OpenFault, StoreBad};
 use ply_body::BodyFault;
 use ply_head::HeadFault;
 use split_pass::SplitFault;
@@ -36,6 +37,13 @@ pub enum Place {
     Row { element: u32, row: u64 },
 }
 
+/// What of a store wasn't read: its head, that is its length, header, records or base, or the block of a record, from 0.
+#[derive(Clone, Copy, Debug, PartialEq, Eq)]
+pub enum ReadAt {
+    Head,
+    Record { rec: u32 },
+}
+
 /// What a run ends with.
 #[derive(Clone, Copy, Debug, PartialEq, Eq)]
 pub enum Status {
@@ -55,6 +63,10 @@ pub enum Status {
     WorkDamage { offset: u64 },
     /// More than 67,108,864 diamonds would be split.
     TooManyRecords,
+    /// The store is refused: why, and where.
+    BadStore(StoreBad),
+    /// A call of the store failed as often as it was to be tried: which one.
+    ReadFault { at: ReadAt },
     /// A call of the output failed.
     OutFault,
     /// Memory ran out.
@@ -76,6 +88,8 @@ impl Status {
             Status::InputFault => 5,
             Status::WorkFault => 8,
             Status::WorkDamage { .. } => 9,
+            Status::BadStore(_) => 12,
+            Status::ReadFault { .. } => 13,
             Status::OutFault => 14,
             Status::Memory => 16,
             Status::TooManyRecords => 22,
@@ -105,6 +119,8 @@ impl Status {
             Status::WorkDamage { offset } => format!(in alloc;
                 "tpz: work file damaged at {offset}"
             ),
+            Status::BadStore(bad) => bad_store_line(alloc, bad),
+            Status::ReadFault { at } => read_fault_line(alloc, at),
             Status::OutFault => String::from_str(alloc, "tpz: output failed"),
             Status::Memory => String::from_str(alloc, "tpz: out of memory"),
             Status::TooManyRecords => String::from_str(alloc, "tpz: too many records"),
@@ -173,6 +189,48 @@ fn kind_line(alloc: Global, kind: InputKind) -> Result<String, AllocError>
         InputKind::BadIndex { index } => format!(in alloc; "BadIndex {index}"),
         InputKind::TooManyTris => String::from_str(alloc, "TooManyTris"),
         InputKind::TooLong => String::from_str(alloc, "TooLong"),
+    }
+}
+
+fn bad_store_line(alloc: Global, bad: StoreBad) -> Result<String, AllocError>
+    ensures { IfOk result (λ line. string_bytes line ≡ codes "tpz: bad store: " ++ bad_text bad) }
+{
+    let what = what_line(alloc, bad)?;
+    format!(in alloc; "tpz: bad store: {what}")
+}
+
+fn what_line(alloc: Global, bad: StoreBad) -> Result<String, AllocError>
+    ensures { IfOk result (λ text. string_bytes text ≡ bad_text bad) }
+{
+    match bad {
+        StoreBad::Short { len } => format!(in alloc; "Short {len}"),
+        StoreBad::Magic => String::from_str(alloc, "Magic"),
+        StoreBad::Unfinished { gate } => format!(in alloc; "Unfinished {gate}"),
+        StoreBad::Field { offset } => format!(in alloc; "Field {offset}"),
+        StoreBad::Order { rec } => format!(in alloc; "Order {rec}"),
+        StoreBad::NotClosed { rec } => format!(in alloc; "NotClosed {rec}"),
+        StoreBad::NotSaturated { rec } => format!(in alloc; "NotSaturated {rec}"),
+        StoreBad::BadBlock { rec, offset } => format!(in alloc; "BadBlock {rec} {offset}"),
+    }
+}
+
+fn read_fault_line(alloc: Global, at: ReadAt) -> Result<String, AllocError>
+    ensures { IfOk result (λ line. string_bytes line ≡ codes "tpz: store read failed at " ++ read_at_text at) }
+{
+    match at {
+        ReadAt::Head => String::from_str(alloc, "tpz: store read failed at head"),
+        ReadAt::Record { rec } => format!(in alloc; "tpz: store read failed at record {rec}"),
+    }
+}
+
+/// The status of a store that isn't opened.
+pub fn status_of_open(fault: OpenFault) -> Status
+    ensures { result ≡ open_status fault }
+{
+    match fault {
+        OpenFault::Bad(bad) => Status::BadStore(bad),
+        OpenFault::ReadFault => Status::ReadFault { at: ReadAt::Head },
+        OpenFault::Memory => Status::Memory,
     }
 }
 

@@ -3,12 +3,13 @@ use Rattle.std.proofs.Common.{◌≡◌, ℕ, refl, sym, ap, ◌∙◌, inr}
 use Rattle.std.specs.Prelude.{Some}
 use Rattle.tpz_base.specs.Cubes.{level_bound}
 use Rattle.ply_body.specs.Inputs.{mesh_of}
-use Rattle.puzzle_cli.specs.declared.jobs.Job.TheVariants.{Finest, Gen}
+use Rattle.puzzle_cli.specs.declared.jobs.Job.TheVariants.{Finest, Gen, Info}
+use Rattle.patch_file.specs.Asking.{RoseBy}
 use Rattle.puzzle_cli.specs.Touches.{Devices}
-use Rattle.puzzle_cli.specs.Runs.{FinestRun, GenRun}
+use Rattle.puzzle_cli.specs.Runs.{FinestRun, GenRun, InfoRun}
 use Rattle.puzzle_cli.proofs.RootCut.{each_once}
-use Rattle.puzzle_cli.proofs.JobRanges.{asked_digits, asked_size}
-use Rattle.puzzle_cli.proofs.JobRuns.{same_finest, same_gen, gen_or_finest, some_or_none, touched, finest_unstarted, gen_unstarted, never, gen_complete}
+use Rattle.puzzle_cli.proofs.JobRanges.{asked_digits, asked_size, asked_tries}
+use Rattle.puzzle_cli.proofs.JobRuns.{same_finest, same_gen, same_info, gen_or_finest, info_or_finest, info_or_gen, some_or_none, touched, finest_unstarted, gen_unstarted, info_unstarted, never, never_told, gen_complete, info_run}
 use Rattle.puzzle_cli.proofs.Completing.{answered}
 use Rattle.puzzle_cli.proofs.run.Goals as goal
 
@@ -19,6 +20,12 @@ returns-in-Err-Usage-clause-finest g c = λ d k asks. absurd (some_or_none _ (Fi
 
 pub returns-in-Err-Usage-clause-generated : goal.returns-in-Err-Usage-clause-generated
 returns-in-Err-Usage-clause-generated g c = λ n asks. absurd (some_or_none _ (Gen n) asks (c.in-Err-Usage.ensures.usage refl))
+
+pub returns-in-Err-Usage-clause-told : goal.returns-in-Err-Usage-clause-told
+returns-in-Err-Usage-clause-told g c = λ n asks. absurd (some_or_none _ (Info n) asks (c.in-Err-Usage.ensures.usage refl))
+
+pub returns-in-Err-Memory-clause-told : goal.returns-in-Err-Memory-clause-told
+returns-in-Err-Memory-clause-told g c = λ n asks. info_unstarted n _ _ _ _ _ _
 
 pub returns-in-Err-Memory-clause-finest : goal.returns-in-Err-Memory-clause-finest
 returns-in-Err-Memory-clause-finest g c = λ d k asks. finest_unstarted d k _ _ _ _ _ _ _
@@ -73,6 +80,9 @@ returns-in-Finest-clause-finest g c = λ d k asks.
 pub returns-in-Finest-clause-generated : goal.returns-in-Finest-clause-generated
 returns-in-Finest-clause-generated g c = λ n asks. absurd (gen_or_finest _ n c.in-Finest.digits c.in-Finest.cap asks (c.in-Ok.ensures.ok ∙ ap Some c.in-Finest.is))
 
+pub returns-in-Finest-clause-told : goal.returns-in-Finest-clause-told
+returns-in-Finest-clause-told g c = λ n asks. absurd (info_or_finest _ n c.in-Finest.digits c.in-Finest.cap asks (c.in-Ok.ensures.ok ∙ ap Some c.in-Finest.is))
+
 -- ---- `gen`
 
 pub generate-requires : goal.generate-requires
@@ -108,3 +118,47 @@ returns-in-Gen-clause-generated g c = λ n asks.
       complete = gen_complete _ _ c.generate.ensures.status c.generate.ensures.out_fault;
       front = c.generate.ensures.front;
     })
+
+pub returns-in-Gen-clause-told : goal.returns-in-Gen-clause-told
+returns-in-Gen-clause-told g c = λ n asks. absurd (info_or_gen _ n c.in-Gen.size asks (c.in-Ok.ensures.ok ∙ ap Some c.in-Gen.is))
+
+-- ---- `info`
+
+pub info-requires-clause-some : goal.info-requires-clause-some
+info-requires-clause-some g c = (asked_tries _ c.in-Info.tries (c.in-Ok.ensures.ok ∙ ap Some c.in-Info.is)).0
+
+pub info-requires-clause-few : goal.info-requires-clause-few
+info-requires-clause-few g c = (asked_tries _ c.in-Info.tries (c.in-Ok.ensures.ok ∙ ap Some c.in-Info.is)).1
+
+pub returns-in-Info-clause-usage : goal.returns-in-Info-clause-usage
+returns-in-Info-clause-usage g c = λ e. absurd (never_told _ _ c.info.ensures.status (λ e. cc) (λ e. cc) (λ e. cc) (λ e. cc) (λ b e. cc) e)
+
+pub returns-in-Info-clause-asked : goal.returns-in-Info-clause-asked
+returns-in-Info-clause-asked g c = λ none. absurd (some_or_none _ _ c.in-Ok.ensures.ok none)
+
+pub returns-in-Info-clause-same_store : goal.returns-in-Info-clause-same_store
+returns-in-Info-clause-same_store g c = λ no. absurd (touched (λ (d : Devices). d.store) _ _ (c.in-Ok.ensures.ok ∙ ap Some c.in-Info.is) refl no)
+
+pub returns-in-Info-clause-same_out : goal.returns-in-Info-clause-same_out
+returns-in-Info-clause-same_out g c = λ no. absurd (touched (λ (d : Devices). d.out) _ _ (c.in-Ok.ensures.ok ∙ ap Some c.in-Info.is) refl no)
+
+pub returns-in-Info-clause-input_fault : goal.returns-in-Info-clause-input_fault
+returns-in-Info-clause-input_fault g c = λ e. absurd (never_told _ _ c.info.ensures.status (λ e. cc) (λ e. cc) (λ e. cc) (λ e. cc) (λ b e. cc) e)
+
+pub returns-in-Info-clause-work_fault : goal.returns-in-Info-clause-work_fault
+returns-in-Info-clause-work_fault g c = λ e. absurd (never_told _ _ c.info.ensures.status (λ e. cc) (λ e. cc) (λ e. cc) (λ e. cc) (λ b e. cc) e)
+
+pub returns-in-Info-clause-work_damage : goal.returns-in-Info-clause-work_damage
+returns-in-Info-clause-work_damage g c = λ offset e. absurd (never_told _ _ c.info.ensures.status (λ e. cc) (λ e. cc) (λ e. cc) (λ e. cc) (λ b e. cc) e)
+
+pub returns-in-Info-clause-finest : goal.returns-in-Info-clause-finest
+returns-in-Info-clause-finest g c = λ d k asks. absurd (info_or_finest _ c.in-Info.tries d k (c.in-Ok.ensures.ok ∙ ap Some c.in-Info.is) asks)
+
+pub returns-in-Info-clause-generated : goal.returns-in-Info-clause-generated
+returns-in-Info-clause-generated g c = λ n asks. absurd (info_or_gen _ c.in-Info.tries n (c.in-Ok.ensures.ok ∙ ap Some c.in-Info.is) asks)
+
+pub returns-in-Info-clause-told : goal.returns-in-Info-clause-told
+returns-in-Info-clause-told g c = λ n asks.
+    same_info (λ x. InfoRun x _ _ _ (RoseBy x (g.S.Blob.faults c.args.store.now) (g.S.Blob.faults c.info.new.store)) _ _ _ _ _ _) _ c.in-Info.tries n (c.in-Ok.ensures.ok ∙ ap Some c.in-Info.is) asks
+    (info_run c.in-Info.tries _ _ _ _ _ _ _ _ c.info.result c.info.ensures.status c.info.ensures.ok c.info.ensures.accepted c.info.ensures.refused c.info.ensures.fault c.info.ensures.spent
+    c.info.ensures.out_fault c.info.ensures.written _ c.info.ensures.held)

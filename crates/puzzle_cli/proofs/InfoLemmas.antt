@@ -1,0 +1,48 @@
+-- What a store that was opened says of itself.
+use Rattle.std.proofs.Common.{◌≡◌, ℕ, List, [], ◌∷◌, ◌++◌, Bool, false, length, refl, sym, ◌∙◌, ap, ap₂, append_assoc}
+use Rattle.std.specs.Prelude.{Option, Some, None, Ok, replicate}
+use Rattle.std.specs.Option.{ForSome}
+use Rattle.std.proofs.lemmas.List.{length-map}
+use Rattle.tpz_io.specs.Writes.{Item, Note}
+use Rattle.tpz_base.specs.Texts.{Bytes}
+use Rattle.diamond_graph.specs.Graphs.{GraphState}
+use Rattle.patch_file.specs.declared.shape.Params.{Params}
+use Rattle.patch_file.specs.Tables.{Table, TableRecord}
+use Rattle.patch_file.specs.Stores.{read, numbers, table_of, record_at, read_block}
+use Rattle.patch_file.specs.Asking.{NotesAll}
+use Rattle.patch_file.specs.Reading.{ReaderState, place_in, IsOpened}
+use Rattle.puzzle_cli.specs.Info.{info_items, info_note}
+
+some_bytes : (a b : Bytes) → Some a ≡ Some b → a ≡ b
+some_bytes a b e = cc
+
+-- the note of a reader is that of the store's bytes
+pub opened_items : (told : Option Bytes) (opened : ReaderState) (records : GraphState) → IsOpened told opened records → (bytes : Bytes) → told ≡ Some bytes
+    → (out : Table × Params) × (read bytes ≡ Ok out) × (Note (info_note opened.params (length opened.places) opened.bytes) ∷ [] ≡ info_items out bytes)
+opened_items told opened records o bytes tells =
+    let bs = o.bytes in
+    let same : bytes ≡ bs = o.held bytes tells in
+    let base = opened.base.patches in
+    let count : length opened.places ≡ length (table_of bs base).0.records =
+        ap (λ (r : ReaderState). length r.places) o.reader ∙ length-map (numbers bs) (place_in bs)
+        ∙ sym (length-map (numbers bs) (λ i. record { entry = record_at bs i; block = read_block bs i })) in (
+      table_of bs base,
+      ap read same ∙ o.read,
+      note_alike opened.params (table_of bs base).1 (length opened.places) (length (table_of bs base).0.records) opened.bytes (length bytes)
+          (ap (λ (r : ReaderState). r.params) o.reader) count (ap (λ (r : ReaderState). r.bytes) o.reader ∙ ap length (sym same)),
+    )
+  where
+    note_alike : (p q : Params) (n m b c : ℕ) → p ≡ q → n ≡ m → b ≡ c → ◌≡◌ {A = List Item} (Note (info_note p n b) ∷ []) (Note (info_note q m c) ∷ [])
+    note_alike p q n m b c e f g = cc
+
+-- outcomes that end in so many failures, behind those from before
+pub ends_failed : (tries : ℕ) (answers front : List Bool) (old new : Option (List Bool)) → answers ≡ front ++ replicate tries false → NotesAll answers old new
+    → ForSome new (λ all. (before : List Bool) × (all ≡ before ++ replicate tries false))
+ends_failed tries answers front old new are noted = λ all told. go old new noted all told
+  where
+    go : (old new : Option (List Bool)) → NotesAll answers old new → (all : List Bool) → new ≡ Some all → (before : List Bool) × (all ≡ before ++ replicate tries false)
+    go old None noted all told = absurd cc
+    go None (Some now) noted all told = absurd noted
+    go (Some before) (Some now) noted all told =
+        let same : now ≡ all = cc in
+        (before ++ front, sym same ∙ noted ∙ ap (λ xs. before ++ xs) are ∙ sym (append_assoc before front (replicate tries false)))

@@ -1,0 +1,23 @@
+-- The command `info`: its words, and what it writes.
+use Rattle.std.specs.Prelude.{◌≡◌, ℕ, List, [], ◌∷◌, ◌++◌, length, map, codes, decimal, string_bytes, Some}
+use Rattle.std.specs.declared.string.String.{String}
+use Rattle.std.specs.declared.alloc.Global.{Global}
+use Rattle.tpz_io.specs.Writes.{Item, Note}
+use Rattle.tpz_base.specs.Texts.{Bytes}
+use Rattle.patch_file.specs.declared.shape.Params.{Params}
+use Rattle.patch_file.specs.Tables.{Table}
+use Rattle.puzzle_cli.specs.declared.jobs.Job.TheVariants.{Info}
+use Rattle.puzzle_cli.specs.Words.{asked}
+
+-- the words ask for `info` with so many tries
+abbrev pub AsksInfo : List (String Global) → ℕ → Type 0
+AsksInfo words tries = asked (map string_bytes words) ≡ Some (Info tries)
+
+abbrev pub info_note : Params → ℕ → ℕ → Bytes
+info_note p records bytes =
+    codes "info level " ++ (decimal p.l ++ (codes " digits " ++ (decimal p.digits ++ (codes " tris " ++ (decimal p.tris ++ (codes " dropped " ++ (decimal p.dropped
+    ++ (codes " cap " ++ (decimal p.cap ++ (codes " budget " ++ (decimal p.budget ++ (codes " records " ++ (decimal records ++ (codes " bytes " ++ decimal bytes))))))))))))))
+
+-- the note of a store of these bytes
+abbrev pub info_items : Table × Params → Bytes → List Item
+info_items out bytes = Note (info_note out.1 (length out.0.records) (length bytes)) ∷ []
