@@ -183,3 +183,12 @@ asked_any tries n s ok spent f f' r r' o o' none h = record {
 } where
   apart : ◌≡◌ {A = Bool} false true → ⊥
   apart e = cc
+
+-- a call failed to the end, so the faults rose by so many at least
+pub rose_by : (tries n : ℕ) (ok : Bool) (f f' r r' : ℕ) (o o' : Option (List Bool)) → HasAsked tries n ok true f f' r r' o o' → RoseBy tries f f'
+rose_by tries n ok f f' r r' o o' h =
+    let a = h.all_failed refl in
+    let e = ap failures a.1 ∙ failures_both a.0 (replicate tries false) in
+    let g = failures_of tries in
+    let k = h.asked.failed in
+    omega arith

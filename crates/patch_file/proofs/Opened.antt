@@ -1,30 +1,33 @@
 -- The parts of a store that were read are those of some bytes that are read as a store.
-use Rattle.std.proofs.Common.{◌≡◌, ℕ, ◌+◌, ◌-◌, ◌*◌, ◌≤◌, Bool, not, List, [], ◌∷◌, ◌++◌, length, take, drop, replicate, map, refl, sym, ◌∙◌, ap, ap₂, subst, arith, Option, Some, None, Result, Ok, Err, length-append, append_assoc}
-use Rattle.std.specs.Prelude.{flat_map, find}
-use Rattle.std.specs.Option.{ForSome}
+use Rattle.std.proofs.Common.{◌≡◌, ℕ, ◌+◌, ◌-◌, ◌*◌, ◌≤◌, Bool, false, not, List, [], ◌∷◌, ◌++◌, length, take, drop, replicate, map, refl, sym, ◌∙◌, ap, ap₂, subst, arith, Option, Some, None, Result, Ok, Err, All, length-append, append_assoc}
+use Rattle.std.specs.Prelude.{flat_map, find, is_ok}
+use Rattle.std.specs.Option.{ForSome, option_or, option_map}
 use Rattle.std.specs.List.{range_with_len}
 use Rattle.std.proofs.Math.Seq.{drop-append_seam, take-append_seam}
 use Rattle.std.proofs.lemmas.List.{take_all, length-replicate}
 use Rattle.tpz_base.specs.Meshes.{Mesh}
 use Rattle.diamond_graph.specs.declared.record.Record.{Record}
 use Rattle.diamond_graph.specs.Graphs.{GraphState}
-use Rattle.diamond_graph.specs.Saturated.{first_fault}
+use Rattle.diamond_graph.specs.Saturated.{first_fault, first_out_of_order, first_not_closed, first_not_saturated}
 use Rattle.patch_file.specs.declared.shape.Params.{Params}
+use Rattle.patch_file.specs.declared.shape.StoreBad.{StoreBad}
+use Rattle.patch_file.specs.declared.shape.StoreBad.TheVariants.{Order, NotClosed, NotSaturated, BadBlock}
+use Rattle.patch_file.specs.declared.fault.OpenFault.{OpenFault}
+use Rattle.patch_file.specs.declared.fault.OpenFault.TheVariants.{Bad, ReadFault, Memory}
+use Rattle.patch_file.specs.Asking.{RoseBy, HasAsked}
+use Rattle.patch_file.proofs.AskingLaw.{rose_by}
 use Rattle.patch_file.specs.declared.head.Head.{Head}
 use Rattle.patch_file.specs.declared.entry.Place.{Place}
 use Rattle.patch_file.specs.Tables.{Contents}
 use Rattle.patch_file.specs.Bytes.{Bytes}
 use Rattle.patch_file.specs.Blocks.{base_of}
 use Rattle.patch_file.specs.Stores.{read, level_bits, base_at, records_of, numbers, record_count, record_at, record_fields, with_base, table_of}
-use Rattle.patch_file.specs.Reading.{IsPiece, HasPiece, IsFit, IsHeadOf, IsHeadRight, AreEntriesOf, ReaderState, IsOpened, graph_of, place_in}
+use Rattle.patch_file.specs.Reading.{IsPiece, HasPiece, IsFit, IsHeadOf, IsHeadRight, IsPlaced, AreEntriesOf, ReaderState, IsOpened, RefusesGraph, is_spent, graph_of, place_in}
 use Rattle.patch_file.proofs.HeadLaw.{wrong}
-use Rattle.patch_file.proofs.OpeningLaw.{read_to_base}
+use Rattle.patch_file.proofs.OpeningLaw.{read_to_base, read_graph}
 
 -- three parts with a gap before the last
-module _ (a b c : Bytes) (base n : ℕ) (first : length a ≡ 80) (second : length b ≡ 64 * n) (far : 80 + 64 * n ≤ base) where
-  gap : Bytes
-  gap = replicate (base - (80 + 64 * n)) 0
-
+module _ (a b gap c : Bytes) (base n : ℕ) (first : length a ≡ 80) (second : length b ≡ 64 * n) (far : 80 + 64 * n + length gap ≡ base) where
   abbrev pub made : Bytes
   made = (a ++ (b ++ gap)) ++ c
 
@@ -32,11 +35,9 @@ module _ (a b c : Bytes) (base n : ℕ) (first : length a ≡ 80) (second : leng
   seen = append_assoc a (b ++ gap) c ∙ ap (λ xs. a ++ xs) (append_assoc b gap c)
 
   front_long : length (a ++ (b ++ gap)) ≡ base
-  unfolding gap
   front_long =
       let e = length-append a (b ++ gap) in
       let f = length-append b gap in
-      let g = length-replicate (base - (80 + 64 * n)) 0 in
       omega arith
 
   pub made_first : IsPiece made 0 a
@@ -81,11 +82,13 @@ module _ (head : Head) (rs : List Record) (ps : List Place) (base : List Mesh) (
   pub whole : (told : Option Bytes) → ForSome told (λ bs. length bs ≡ head.total) → HasPiece told 0 80 First → HasPiece told 80 (64 * head.records) Second → HasPiece told head.base (head.total - head.base) Last
       → IsWhole told head rs ps base
   whole None size p q r =
-      let bs = made p.piece q.piece r.piece head.base head.records p.size q.size fit.base in
-      let one = p.all bs (made_first p.piece q.piece r.piece head.base head.records p.size q.size fit.base) in
-      let two = q.all bs (made_second p.piece q.piece r.piece head.base head.records p.size q.size fit.base) in
-      let three = r.all bs (made_last p.piece q.piece r.piece head.base head.records p.size q.size fit.base) in
-      let long : length bs ≡ head.total = (let e = made_long p.piece q.piece r.piece head.base head.records p.size q.size fit.base in let f = r.size in let g = fit.room in omega arith) in
+      let gap : Bytes = replicate (head.base - (80 + 64 * head.records)) 0 in
+      let far : 80 + 64 * head.records + length gap ≡ head.base = (let e : length gap ≡ head.base - (80 + 64 * head.records) = length-replicate (head.base - (80 + 64 * head.records)) 0 in let f = fit.base in omega arith) in
+      let bs = made p.piece q.piece gap r.piece head.base head.records p.size q.size far in
+      let one = p.all bs (made_first p.piece q.piece gap r.piece head.base head.records p.size q.size far) in
+      let two = q.all bs (made_second p.piece q.piece gap r.piece head.base head.records p.size q.size far) in
+      let three = r.all bs (made_last p.piece q.piece gap r.piece head.base head.records p.size q.size far) in
+      let long : length bs ≡ head.total = (let e = made_long p.piece q.piece gap r.piece head.base head.records p.size q.size far in let f = r.size in let g = fit.room in omega arith) in
       record {
         bytes = bs;
         held = λ x e. cc;
@@ -137,3 +140,40 @@ opened told head rs ps base graph moves g f fit w = record {
   reader = reader_same _ _ _ _ base _ _ w.of.params (w.entries.places_are ∙ ap (λ n. map (place_in w.bytes) (range_with_len 0 n)) w.of.count) moves (sym w.size);
   graph = g ∙ graph_same _ _ _ _ (level_right head rs ps base.patches fit w.bytes w.of) (records_right head rs ps base.patches fit w.bytes w.of w.entries);
 }
+
+pub widened : (l end end' : ℕ) (ps : List Place) → end ≤ end' → All (IsPlaced l end) ps → All (IsPlaced l end') ps
+widened l end end' ps e h = λ k d few. let p = h k d few in record { can_split = p.can_split; within = let w = p.within in omega arith }
+
+abbrev first_refusal : ℕ → List Record → Option StoreBad
+first_refusal l rs = option_or (option_map Order (first_out_of_order l rs)) (option_or (option_map NotClosed (first_not_closed l rs)) (option_map NotSaturated (first_not_saturated l rs)))
+
+module _ (bs : Bytes) (head : Head) (rs : List Record) (ps : List Place) (fit : IsFit head head.total) (h : IsHeadOf bs head) (right : IsHeadRight bs) (e : AreEntriesOf bs head.records rs ps) where
+  pub graph_refused : (bad : StoreBad) → RefusesGraph head.params.l rs bad → read bs ≡ Err bad
+  graph_refused bad f =
+      read_graph bs bad right (fields_right head rs ps [] fit bs h e)
+      (ap₂ first_refusal (sym (level_right head rs ps [] fit bs h)) (sym (records_right head rs ps [] fit bs h e)) ∙ f)
+
+  pub base_refused : (bad : StoreBad) (offset : ℕ) → first_fault head.params.l rs ≡ None → bad ≡ BadBlock head.records offset → base_of (level_bits bs) (drop (base_at bs) bs) ≡ Err offset → read bs ≡ Err bad
+  base_refused bad offset f b k =
+      read_to_base bs right (fields_right head rs ps [] fit bs h e) (fault_right head rs ps [] fit bs h e f)
+      ∙ ap (with_base bs) k
+      ∙ ap (λ n. Err (BadBlock n offset)) (sym h.count)
+      ∙ ap (λ (x : StoreBad). Err x) (sym b)
+
+-- the same error of another call
+pub retyped : {X Y : Type 0} (a b : OpenFault) → ◌≡◌ {A = Result X OpenFault} (Err a) (Err b) → ◌≡◌ {A = Result Y OpenFault} (Err a) (Err b)
+retyped a b e = let f : a ≡ b = cc in cc
+
+spent_same : (T U : Type 0) (x : OpenFault) → is_spent {T = U} (Err x) ≡ is_spent {T = T} (Err x)
+spent_same T U (Bad bad) = refl
+spent_same T U ReadFault = refl
+spent_same T U Memory = refl
+
+-- what was asked of a store, where the answer is an error of another call
+pub asked_err : {T : Type 0} (U : Type 0) (tries n : ℕ) (r : Result T OpenFault) (x : OpenFault) (f f' k k' : ℕ) (o o' : Option (List Bool)) → r ≡ Err x → HasAsked tries n false (is_spent {T = U} (Err x)) f f' k k' o o'
+    → HasAsked tries n (is_ok r) (is_spent r) f f' k k' o o'
+asked_err {T} U tries n r x f f' k k' o o' e h =
+    subst (λ (q : Result T OpenFault). HasAsked tries n (is_ok q) (is_spent q) f f' k k' o o') (sym e) (subst (λ b. HasAsked tries n false b f f' k k' o o') (spent_same T U x) h)
+
+pub rose_err : {T : Type 0} (tries n : ℕ) (r : Result T OpenFault) (f f' k k' : ℕ) (o o' : Option (List Bool)) → HasAsked tries n (is_ok r) (is_spent r) f f' k k' o o' → r ≡ Err ReadFault → RoseBy tries f f'
+rose_err {T} tries n r f f' k k' o o' h e = rose_by tries n false f f' k k' o o' (subst (λ (q : Result T OpenFault). HasAsked tries n (is_ok q) (is_spent q) f f' k k' o o') e h)

@@ -12,6 +12,8 @@ mod law;
 mod number;
 mod opening;
 mod reader;
+#[cfg(test)]
+mod reader_tests;
 mod shape;
 
 pub use block::Block;

@@ -3,7 +3,7 @@ ghost use Rattle.std.specs.Prelude.{◌≡◌, ◌≢◌, ◌+◌, ◌-◌, ◌*
 ghost use Rattle.std.specs.Option.{ForSome};
 ghost use Rattle.tetra_name.specs.Names.{IsBound};
 ghost use Rattle.diamond_graph.specs.Graphs.{IsStored};
-ghost use Rattle.diamond_graph.specs.Saturated.{first_fault};
+ghost use Rattle.diamond_graph.specs.Saturated.{first_fault, AreSaturated};
 ghost use Rattle.patch_file.specs.declared.shape.StoreBad.{StoreBad};
 ghost use Rattle.patch_file.specs.Bytes.{Bytes};
 ghost use Rattle.patch_file.specs.Blocks.{base_of};
@@ -126,6 +126,7 @@ pub(crate) fn open_graph(alloc: Global, l: u8, records: Vec<Record>) -> Result<G
     requires stored { All (IsStored l) records.items }
     ensures graph { IfOk result (λ graph. graph ≡ record { l = l; records = records.items; tests = 0 }) }
     ensures right { OnOk result (first_fault l records.items ≡ None) }
+    ensures saturated { OnOk result (AreSaturated l records.items) }
     ensures bad { (bad : StoreBad) → result ≡ Err (OpenFault.Bad bad) → RefusesGraph l records.items bad }
     ensures memory { is_spent result ≡ false }
 {
