@@ -2,8 +2,9 @@
 use Rattle.std.proofs.Common.{◌≡◌, ℕ, List, [], ◌∷◌, ◌++◌, Bool, false, length, refl, sym, ◌∙◌, ap, ap₂, append_assoc}
 use Rattle.std.specs.Prelude.{Option, Some, None, Ok, replicate}
 use Rattle.std.specs.Option.{ForSome}
-use Rattle.std.proofs.lemmas.List.{length-map}
-use Rattle.tpz_io.specs.Writes.{Item, Note}
+use Rattle.std.proofs.lemmas.List.{append-nil, length-map}
+use Rattle.tpz_io.specs.Told.{followed_by}
+use Rattle.tpz_io.specs.Writes.{Item, Note, Wrote}
 use Rattle.tpz_base.specs.Texts.{Bytes}
 use Rattle.diamond_graph.specs.Graphs.{GraphState}
 use Rattle.patch_file.specs.declared.shape.Params.{Params}
@@ -12,6 +13,7 @@ use Rattle.patch_file.specs.Stores.{read, numbers, table_of, record_at, read_blo
 use Rattle.patch_file.specs.Asking.{NotesAll}
 use Rattle.patch_file.specs.Reading.{ReaderState, place_in, IsOpened}
 use Rattle.puzzle_cli.specs.Info.{info_items, info_note}
+use Rattle.puzzle_cli.proofs.Pieces.{followed_by-nil}
 
 some_bytes : (a b : Bytes) → Some a ≡ Some b → a ≡ b
 some_bytes a b e = cc
@@ -34,6 +36,17 @@ opened_items told opened records o bytes tells =
   where
     note_alike : (p q : Params) (n m b c : ℕ) → p ≡ q → n ≡ m → b ≡ c → ◌≡◌ {A = List Item} (Note (info_note p n b) ∷ []) (Note (info_note q m c) ∷ [])
     note_alike p q n m b c e f g = cc
+
+-- a note of a reader's numbers was written
+pub note_written : (p p' : Params) (n n' b b' : ℕ) (line : Bytes) (p0 p1 : Option (List Bytes)) (n0 n1 : Option Bytes) → line ≡ info_note p n b → p ≡ p' → n ≡ n' → b ≡ b'
+    → p1 ≡ p0 → n1 ≡ followed_by n0 (line ++ 10 ∷ []) → Wrote (Note (info_note p' n' b') ∷ []) p0 p1 n0 n1
+note_written p p' n n' b b' line p0 p1 n0 n1 says e f g parts notes = record {
+  parts = parts ∙ sym (followed_by-nil p0);
+  notes = notes ∙ ap (followed_by n0) (ap (λ (l : Bytes). l ++ 10 ∷ []) (says ∙ alike) ∙ sym (append-nil _));
+}
+  where
+    alike : info_note p n b ≡ info_note p' n' b'
+    alike = cc
 
 -- outcomes that end in so many failures, behind those from before
 pub ends_failed : (tries : ℕ) (answers front : List Bool) (old new : Option (List Bool)) → answers ≡ front ++ replicate tries false → NotesAll answers old new
