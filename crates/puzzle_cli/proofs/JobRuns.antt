@@ -1,5 +1,5 @@
 -- What a run says of each command: of the one that was asked for, and, since words ask for one job, nothing of the others.
-use Rattle.std.proofs.Common.{◌≡◌, ℕ, ◌⊎◌, ◌++◌, Bool, true, false, List, [], refl, sym, ◌∙◌, ap, subst, inl, inr, true≢false}
+use Rattle.std.proofs.Common.{◌≡◌, ℕ, ◌⊎◌, Bool, true, false, List, refl, sym, ◌∙◌, ap, subst, inl, inr, true≢false, ◌++◌, []}
 use Rattle.std.specs.Prelude.{Option, Some, None, Result, Ok, Err, replicate}
 use Rattle.std.specs.Option.{ForSome}
 use Rattle.tpz_base.specs.Texts.{Bytes}
@@ -10,6 +10,7 @@ use Rattle.puzzle_cli.specs.declared.jobs.Job.{Job}
 use Rattle.puzzle_cli.specs.declared.jobs.Job.TheVariants.{Finest, Gen, Info}
 use Rattle.patch_file.specs.declared.shape.Params.{Params}
 use Rattle.patch_file.specs.declared.shape.StoreBad.{StoreBad}
+use Rattle.patch_file.specs.Asking.{RoseBy}
 use Rattle.patch_file.specs.Tables.{Table}
 use Rattle.patch_file.specs.Stores.{read}
 use Rattle.tpz_io.specs.Writes.{Wrote, WrotePrefix}
@@ -25,24 +26,27 @@ use Rattle.puzzle_cli.proofs.Exports.{none_yet, nothing}
 
 -- ---- one job
 
-pub same_finest : (P : Option ℕ → Option ℕ → Type 0) (o : Option Job) (d k d' k' : Option ℕ) → o ≡ Some (Finest d k) → o ≡ Some (Finest d' k') → P d k → P d' k'
-same_finest P o d k d' k' a b h =
+pub same_finest : {left held : Option Bytes} {input_failed work_failed out_failed : Type 0} {p0 p1 : Option (List Bytes)} {n0 n1 : Option Bytes} {answer : Status} (o : Option Job) (d k d' k' : Option ℕ)
+    → o ≡ Some (Finest d k) → o ≡ Some (Finest d' k') → FinestRun d k left held input_failed work_failed out_failed p0 p1 n0 n1 answer → FinestRun d' k' left held input_failed work_failed out_failed p0 p1 n0 n1 answer
+same_finest {left} {held} {input_failed} {work_failed} {out_failed} {p0} {p1} {n0} {n1} {answer} o d k d' k' a b h =
     let both : ◌≡◌ {A = Option Job} (Some (Finest d k)) (Some (Finest d' k')) = sym a ∙ b in
     let p : d ≡ d' = cc in
     let q : k ≡ k' = cc in
-    subst (λ x. P x k') p (subst (λ y. P d y) q h)
+    subst (λ x. FinestRun x k' left held input_failed work_failed out_failed p0 p1 n0 n1 answer) p (subst (λ y. FinestRun d y left held input_failed work_failed out_failed p0 p1 n0 n1 answer) q h)
 
-pub same_gen : (P : ℕ → Type 0) (o : Option Job) (n n' : ℕ) → o ≡ Some (Gen n) → o ≡ Some (Gen n') → P n → P n'
-same_gen P o n n' a b h =
+pub same_gen : {out_failed : Type 0} {p0 p1 : Option (List Bytes)} {n0 n1 : Option Bytes} {answer : Status} (o : Option Job) (n n' : ℕ)
+    → o ≡ Some (Gen n) → o ≡ Some (Gen n') → GenRun n out_failed p0 p1 n0 n1 answer → GenRun n' out_failed p0 p1 n0 n1 answer
+same_gen {out_failed} {p0} {p1} {n0} {n1} {answer} o n n' a b h =
     let both : ◌≡◌ {A = Option Job} (Some (Gen n)) (Some (Gen n')) = sym a ∙ b in
     let p : n ≡ n' = cc in
-    subst P p h
+    subst (λ x. GenRun x out_failed p0 p1 n0 n1 answer) p h
 
-pub same_info : (P : ℕ → Type 0) (o : Option Job) (n n' : ℕ) → o ≡ Some (Info n) → o ≡ Some (Info n') → P n → P n'
-same_info P o n n' a b h =
+pub same_info : {held held' : Option Bytes} {outcomes : Option (List Bool)} {out_failed : Type 0} {p0 p1 : Option (List Bytes)} {n0 n1 : Option Bytes} {answer : Status} (faults faults' : ℕ) (o : Option Job) (n n' : ℕ)
+    → o ≡ Some (Info n) → o ≡ Some (Info n') → InfoRun n held held' outcomes (RoseBy n faults faults') out_failed p0 p1 n0 n1 answer → InfoRun n' held held' outcomes (RoseBy n' faults faults') out_failed p0 p1 n0 n1 answer
+same_info {held} {held'} {outcomes} {out_failed} {p0} {p1} {n0} {n1} {answer} faults faults' o n n' a b h =
     let both : ◌≡◌ {A = Option Job} (Some (Info n)) (Some (Info n')) = sym a ∙ b in
     let p : n ≡ n' = cc in
-    subst P p h
+    subst (λ x. InfoRun x held held' outcomes (RoseBy x faults faults') out_failed p0 p1 n0 n1 answer) p h
 
 pub info_or_finest : (o : Option Job) (n : ℕ) (d k : Option ℕ) → o ≡ Some (Info n) → o ≡ Some (Finest d k) → ⊥
 info_or_finest o n d k a b = let both : ◌≡◌ {A = Option Job} (Some (Info n)) (Some (Finest d k)) = sym a ∙ b in cc
@@ -58,7 +62,7 @@ some_or_none o j a b = let both : ◌≡◌ {A = Option Job} (Some j) None = sym
 
 -- a device that is touched isn't one that isn't
 pub touched : (f : Devices → Bool) (o p : Option Job) → o ≡ p → f (touched_by p) ≡ true → f (touched_by o) ≡ false → ⊥
-touched f o p same yes no = true≢false (sym yes ∙ ap (λ j. f (touched_by j)) (sym same) ∙ no)
+touched f o p same is isnt = true≢false (sym is ∙ ap (λ j. f (touched_by j)) (sym same) ∙ isnt)
 
 -- ---- where memory ran out before a device was touched
 
@@ -96,7 +100,7 @@ info_unstarted tries held outcomes read_failed out_failed p n = record {
   same = refl;
   written = λ bytes told out is. none_yet _ p p n n refl refl;
   unaccepted = λ bytes told bad is. nothing p p n n refl refl;
-  unread = λ no. nothing p p n n refl refl;
+  unread = λ ended. nothing p p n n refl refl;
 }
 
 -- ---- what `gen` answers
@@ -109,7 +113,7 @@ pub never : (answer other : Status) → IsGenAnswer answer → (status.Ok ≡ ot
 never answer other is a b c e = elim is [ inl k ↦ a (sym k ∙ e) | inr k ↦ elim k [ inl l ↦ b (sym l ∙ e) | inr l ↦ c (sym l ∙ e) ] ]
 
 pub gen_complete : (answer : Status) (out_failed : Type 0) → IsGenAnswer answer → (answer ≡ status.OutFault → out_failed) → (out_failed → ⊥) → (answer ≡ status.Ok) ⊎ (answer ≡ status.Memory)
-gen_complete answer out_failed is fault no = elim is [ inl e ↦ inl e | inr k ↦ elim k [ inl e ↦ absurd (no (fault e)) | inr e ↦ inr e ] ]
+gen_complete answer out_failed is fault none = elim is [ inl e ↦ inl e | inr k ↦ elim k [ inl e ↦ absurd (none (fault e)) | inr e ↦ inr e ] ]
 
 -- ---- what `info` answers
 
@@ -182,12 +186,12 @@ module _ (tries : ℕ) (held : Option Bytes) (outcomes : Option (List Bool)) (re
       elim is [
         | inl e ↦ inl e
         | inr k ↦ elim k [
-          | inl e ↦ inr (written (λ f. let no : status.OutFault ≡ status.Ok = sym e ∙ f in cc))
+          | inl e ↦ inr (written (λ f. let wrong : status.OutFault ≡ status.Ok = sym e ∙ f in cc))
           | inr l ↦ elim l [
-            | inl e ↦ inr (written (λ f. let no : status.Memory ≡ status.Ok = sym e ∙ f in cc))
+            | inl e ↦ inr (written (λ f. let wrong : status.Memory ≡ status.Ok = sym e ∙ f in cc))
             | inr m ↦ elim m [
-              | inl e ↦ inr (written (λ f. let no : status.ReadFault read_at.Head ≡ status.Ok = sym e ∙ f in cc))
-              | inr e ↦ inr (written (λ f. let no : status.BadStore e.0 ≡ status.Ok = sym e.1 ∙ f in cc))
+              | inl e ↦ inr (written (λ f. let wrong : status.ReadFault read_at.Head ≡ status.Ok = sym e ∙ f in cc))
+              | inr e ↦ inr (written (λ f. let wrong : status.BadStore e.0 ≡ status.Ok = sym e.1 ∙ f in cc))
             ]
           ]
         ]

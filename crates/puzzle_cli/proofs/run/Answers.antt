@@ -1,12 +1,10 @@
 -- The words ask for one job, whose answer is that of the command.
 use Rattle.std.proofs.Common.{◌≡◌, ℕ, refl, sym, ap, ◌∙◌, inr}
-use Rattle.std.specs.Prelude.{Some}
+use Rattle.std.specs.Prelude.{Some, Err}
 use Rattle.tpz_base.specs.Cubes.{level_bound}
 use Rattle.ply_body.specs.Inputs.{mesh_of}
 use Rattle.puzzle_cli.specs.declared.jobs.Job.TheVariants.{Finest, Gen, Info}
-use Rattle.patch_file.specs.Asking.{RoseBy}
 use Rattle.puzzle_cli.specs.Touches.{Devices}
-use Rattle.puzzle_cli.specs.Runs.{FinestRun, GenRun, InfoRun}
 use Rattle.puzzle_cli.proofs.RootCut.{each_once}
 use Rattle.puzzle_cli.proofs.JobRanges.{asked_digits, asked_size, asked_tries}
 use Rattle.puzzle_cli.proofs.JobRuns.{same_finest, same_gen, same_info, gen_or_finest, info_or_finest, info_or_gen, some_or_none, touched, finest_unstarted, gen_unstarted, info_unstarted, never, never_told, gen_complete, info_run}
@@ -16,13 +14,13 @@ use Rattle.puzzle_cli.proofs.run.Goals as goal
 -- ---- without a job
 
 pub returns-in-Err-Usage-clause-finest : goal.returns-in-Err-Usage-clause-finest
-returns-in-Err-Usage-clause-finest g c = λ d k asks. absurd (some_or_none _ (Finest d k) asks (c.in-Err-Usage.ensures.usage refl))
+returns-in-Err-Usage-clause-finest g c = λ d k asks. absurd (some_or_none _ (Finest d k) asks (c.in-Err-Usage.ensures.usage (ap Err c.in-Err-Usage.field-0-is)))
 
 pub returns-in-Err-Usage-clause-generated : goal.returns-in-Err-Usage-clause-generated
-returns-in-Err-Usage-clause-generated g c = λ n asks. absurd (some_or_none _ (Gen n) asks (c.in-Err-Usage.ensures.usage refl))
+returns-in-Err-Usage-clause-generated g c = λ n asks. absurd (some_or_none _ (Gen n) asks (c.in-Err-Usage.ensures.usage (ap Err c.in-Err-Usage.field-0-is)))
 
 pub returns-in-Err-Usage-clause-told : goal.returns-in-Err-Usage-clause-told
-returns-in-Err-Usage-clause-told g c = λ n asks. absurd (some_or_none _ (Info n) asks (c.in-Err-Usage.ensures.usage refl))
+returns-in-Err-Usage-clause-told g c = λ n asks. absurd (some_or_none _ (Info n) asks (c.in-Err-Usage.ensures.usage (ap Err c.in-Err-Usage.field-0-is)))
 
 pub returns-in-Err-Memory-clause-told : goal.returns-in-Err-Memory-clause-told
 returns-in-Err-Memory-clause-told g c = λ n asks. info_unstarted n _ _ _ _ _ _
@@ -39,20 +37,20 @@ pub finest-requires : goal.finest-requires
 finest-requires g c = asked_digits _ c.in-Finest.digits c.in-Finest.cap (c.in-Ok.ensures.ok ∙ ap Some c.in-Finest.is)
 
 pub returns-in-Finest-clause-same_input : goal.returns-in-Finest-clause-same_input
-returns-in-Finest-clause-same_input g c = λ no. absurd (touched (λ (d : Devices). d.input) _ _ (c.in-Ok.ensures.ok ∙ ap Some c.in-Finest.is) refl no)
+returns-in-Finest-clause-same_input g c = λ isnt. absurd (touched (λ (d : Devices). d.input) _ _ (c.in-Ok.ensures.ok ∙ ap Some c.in-Finest.is) refl isnt)
 
 pub returns-in-Finest-clause-same_work : goal.returns-in-Finest-clause-same_work
-returns-in-Finest-clause-same_work g c = λ no. absurd (touched (λ (d : Devices). d.work) _ _ (c.in-Ok.ensures.ok ∙ ap Some c.in-Finest.is) refl no)
+returns-in-Finest-clause-same_work g c = λ isnt. absurd (touched (λ (d : Devices). d.work) _ _ (c.in-Ok.ensures.ok ∙ ap Some c.in-Finest.is) refl isnt)
 
 pub returns-in-Finest-clause-same_out : goal.returns-in-Finest-clause-same_out
-returns-in-Finest-clause-same_out g c = λ no. absurd (touched (λ (d : Devices). d.out) _ _ (c.in-Ok.ensures.ok ∙ ap Some c.in-Finest.is) refl no)
+returns-in-Finest-clause-same_out g c = λ isnt. absurd (touched (λ (d : Devices). d.out) _ _ (c.in-Ok.ensures.ok ∙ ap Some c.in-Finest.is) refl isnt)
 
 pub returns-in-Finest-clause-asked : goal.returns-in-Finest-clause-asked
 returns-in-Finest-clause-asked g c = λ none. absurd (some_or_none _ _ c.in-Ok.ensures.ok none)
 
 pub returns-in-Finest-clause-finest : goal.returns-in-Finest-clause-finest
 returns-in-Finest-clause-finest g c = λ d k asks.
-    same_finest (λ x y. FinestRun x y _ _ _ _ _ _ _ _ _ _) _ c.in-Finest.digits c.in-Finest.cap d k (c.in-Ok.ensures.ok ∙ ap Some c.in-Finest.is) asks
+    same_finest _ c.in-Finest.digits c.in-Finest.cap d k (c.in-Ok.ensures.ok ∙ ap Some c.in-Finest.is) asks
     (record {
       ok = c.finest.ensures.ok;
       once = λ rows faces. each_once c.in-Finest.cap (level_bound rows) (mesh_of rows faces);
@@ -69,7 +67,7 @@ returns-in-Finest-clause-finest g c = λ d k asks.
             too_many = λ h. c.finest.ensures.too_many h bytes told held keeps;
             input = λ e. no_input (c.finest.ensures.input_fault e);
             work = λ e. no_work (c.finest.ensures.work_fault e);
-            damage = λ offset e. (let none = c.finest.ensures.work_damage offset e in let no = sym none ∙ keeps in cc);
+            damage = λ offset e. (let none = c.finest.ensures.work_damage offset e in let not_told = sym none ∙ keeps in cc);
             out = λ e. no_out (c.finest.ensures.out_fault e);
           });
       front = c.finest.ensures.front;
@@ -95,7 +93,7 @@ pub returns-in-Gen-clause-asked : goal.returns-in-Gen-clause-asked
 returns-in-Gen-clause-asked g c = λ none. absurd (some_or_none _ _ c.in-Ok.ensures.ok none)
 
 pub returns-in-Gen-clause-same_out : goal.returns-in-Gen-clause-same_out
-returns-in-Gen-clause-same_out g c = λ no. absurd (touched (λ (d : Devices). d.out) _ _ (c.in-Ok.ensures.ok ∙ ap Some c.in-Gen.is) refl no)
+returns-in-Gen-clause-same_out g c = λ isnt. absurd (touched (λ (d : Devices). d.out) _ _ (c.in-Ok.ensures.ok ∙ ap Some c.in-Gen.is) refl isnt)
 
 pub returns-in-Gen-clause-input_fault : goal.returns-in-Gen-clause-input_fault
 returns-in-Gen-clause-input_fault g c = λ e. absurd (never _ _ c.generate.ensures.status (λ e. cc) (λ e. cc) (λ e. cc) e)
@@ -111,7 +109,7 @@ returns-in-Gen-clause-finest g c = λ d k asks. absurd (gen_or_finest _ c.in-Gen
 
 pub returns-in-Gen-clause-generated : goal.returns-in-Gen-clause-generated
 returns-in-Gen-clause-generated g c = λ n asks.
-    same_gen (λ x. GenRun x _ _ _ _ _ _) _ c.in-Gen.size n (c.in-Ok.ensures.ok ∙ ap Some c.in-Gen.is) asks
+    same_gen _ c.in-Gen.size n (c.in-Ok.ensures.ok ∙ ap Some c.in-Gen.is) asks
     (record {
       ok = c.generate.ensures.ok;
       closed = c.generate.ensures.closed;
@@ -137,10 +135,10 @@ pub returns-in-Info-clause-asked : goal.returns-in-Info-clause-asked
 returns-in-Info-clause-asked g c = λ none. absurd (some_or_none _ _ c.in-Ok.ensures.ok none)
 
 pub returns-in-Info-clause-same_store : goal.returns-in-Info-clause-same_store
-returns-in-Info-clause-same_store g c = λ no. absurd (touched (λ (d : Devices). d.store) _ _ (c.in-Ok.ensures.ok ∙ ap Some c.in-Info.is) refl no)
+returns-in-Info-clause-same_store g c = λ isnt. absurd (touched (λ (d : Devices). d.store) _ _ (c.in-Ok.ensures.ok ∙ ap Some c.in-Info.is) refl isnt)
 
 pub returns-in-Info-clause-same_out : goal.returns-in-Info-clause-same_out
-returns-in-Info-clause-same_out g c = λ no. absurd (touched (λ (d : Devices). d.out) _ _ (c.in-Ok.ensures.ok ∙ ap Some c.in-Info.is) refl no)
+returns-in-Info-clause-same_out g c = λ isnt. absurd (touched (λ (d : Devices). d.out) _ _ (c.in-Ok.ensures.ok ∙ ap Some c.in-Info.is) refl isnt)
 
 pub returns-in-Info-clause-input_fault : goal.returns-in-Info-clause-input_fault
 returns-in-Info-clause-input_fault g c = λ e. absurd (never_told _ _ c.info.ensures.status (λ e. cc) (λ e. cc) (λ e. cc) (λ e. cc) (λ b e. cc) e)
@@ -159,6 +157,6 @@ returns-in-Info-clause-generated g c = λ n asks. absurd (info_or_gen _ c.in-Inf
 
 pub returns-in-Info-clause-told : goal.returns-in-Info-clause-told
 returns-in-Info-clause-told g c = λ n asks.
-    same_info (λ x. InfoRun x _ _ _ (RoseBy x (g.S.Blob.faults c.args.store.now) (g.S.Blob.faults c.info.new.store)) _ _ _ _ _ _) _ c.in-Info.tries n (c.in-Ok.ensures.ok ∙ ap Some c.in-Info.is) asks
+    same_info (g.S.Blob.faults c.args.store.now) (g.S.Blob.faults c.info.new.store) _ c.in-Info.tries n (c.in-Ok.ensures.ok ∙ ap Some c.in-Info.is) asks
     (info_run c.in-Info.tries _ _ _ _ _ _ _ _ c.info.result c.info.ensures.status c.info.ensures.ok c.info.ensures.accepted c.info.ensures.refused c.info.ensures.fault c.info.ensures.spent
     c.info.ensures.out_fault c.info.ensures.written _ c.info.ensures.held)
