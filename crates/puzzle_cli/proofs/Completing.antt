@@ -9,7 +9,7 @@ use Rattle.diamond_graph.specs.Adding.{most_centres}
 use Rattle.puzzle_cli.specs.declared.status.Status.{Status}
 use Rattle.puzzle_cli.specs.declared.status.Status.TheVariants as status
 use Rattle.puzzle_cli.specs.Finest.{finest_split, input_for, IsAccepted}
-use Rattle.puzzle_cli.specs.Statuses.{status_of, IsRefused}
+use Rattle.puzzle_cli.specs.Statuses.{status_of, IsRefused, IsOfStore, IsUnread}
 
 -- the answer is the input's, or want of memory
 abbrev pub IsAnswer : Option ℕ → Option ℕ → Bytes → Status → Type 0
@@ -46,6 +46,7 @@ module _ (digits cap : Option ℕ) (bytes : Bytes) where
   -- what a run says of its answer, where nothing failed
   pub record Says (answer : Status) : Type 0 where
     pub usage : answer ≡ status.Usage → ⊥
+    pub store : IsOfStore answer → ⊥
     pub refused : IsRefused answer → (r : Refusal) × (input_for digits bytes ≡ Err r) × (answer ≡ status_of r)
     pub accepted : (answer ≡ status.Ok) ⊎ ((answer ≡ status.OutFault) ⊎ (answer ≡ status.TooManyRecords)) → IsAccepted digits bytes
     pub few : (answer ≡ status.Ok) ⊎ (answer ≡ status.OutFault) → (rows : List Row) (faces : List Face)
@@ -66,5 +67,22 @@ module _ (digits cap : Option ℕ) (bytes : Bytes) where
   answered status.WorkFault says = absurd (says.work refl)
   answered (status.WorkDamage offset) says = absurd (says.damage offset refl)
   answered status.TooManyRecords says = past_answer (says.too_many refl) (says.accepted (inr (inr refl)))
+  answered (status.BadStore why) says = absurd (says.store tt)
+  answered (status.ReadFault at) says = absurd (says.store tt)
   answered status.OutFault says = absurd (says.out refl)
   answered status.Memory says = (λ rows faces means. (λ fits. inr refl, λ past. inr refl), λ r is. inr refl)
+
+-- reading an input doesn't end as opening a store does
+pub unread_own : (answer : Status) → IsUnread answer → IsOfStore answer → ⊥
+unread_own status.Ok unread own = own
+unread_own status.Usage unread own = own
+unread_own (status.BadInput kind place) unread own = own
+unread_own (status.Extent axis least greatest) unread own = own
+unread_own status.InputFault unread own = own
+unread_own status.WorkFault unread own = own
+unread_own (status.WorkDamage offset) unread own = own
+unread_own status.TooManyRecords unread own = own
+unread_own (status.BadStore why) unread own = unread
+unread_own (status.ReadFault at) unread own = unread
+unread_own status.OutFault unread own = own
+unread_own status.Memory unread own = own

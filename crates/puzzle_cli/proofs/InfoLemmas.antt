@@ -1,6 +1,6 @@
 -- What a store that was opened says of itself.
-use Rattle.std.proofs.Common.{◌≡◌, ℕ, List, [], ◌∷◌, ◌++◌, Bool, false, length, refl, sym, ◌∙◌, ap, ap₂, append_assoc}
-use Rattle.std.specs.Prelude.{Option, Some, None, Ok, replicate}
+use Rattle.std.proofs.Common.{◌≡◌, ◌⊎◌, inl, inr, ℕ, List, [], ◌∷◌, ◌++◌, Bool, false, length, refl, sym, ◌∙◌, ap, ap₂, append_assoc}
+use Rattle.std.specs.Prelude.{Option, Some, None, Ok, Err, true, replicate}
 use Rattle.std.specs.Option.{ForSome}
 use Rattle.std.proofs.lemmas.List.{append-nil, length-map}
 use Rattle.tpz_io.specs.Told.{followed_by}
@@ -8,10 +8,17 @@ use Rattle.tpz_io.specs.Writes.{Item, Note, Wrote}
 use Rattle.tpz_base.specs.Texts.{Bytes}
 use Rattle.diamond_graph.specs.Graphs.{GraphState}
 use Rattle.patch_file.specs.declared.shape.Params.{Params}
+use Rattle.patch_file.specs.declared.shape.StoreBad.{StoreBad}
+use Rattle.patch_file.specs.declared.fault.OpenFault.{OpenFault}
+use Rattle.patch_file.specs.declared.fault.OpenFault.TheVariants as opening
 use Rattle.patch_file.specs.Tables.{Table, TableRecord}
 use Rattle.patch_file.specs.Stores.{read, numbers, table_of, record_at, read_block}
 use Rattle.patch_file.specs.Asking.{NotesAll}
-use Rattle.patch_file.specs.Reading.{ReaderState, place_in, IsOpened}
+use Rattle.patch_file.specs.Reading.{ReaderState, is_spent, place_in, IsOpened}
+use Rattle.puzzle_cli.specs.declared.status.Status.{Status}
+use Rattle.puzzle_cli.specs.declared.status.Status.TheVariants as status
+use Rattle.puzzle_cli.specs.declared.status.ReadAt.TheVariants as read_at
+use Rattle.puzzle_cli.specs.Statuses.{open_status}
 use Rattle.puzzle_cli.specs.Info.{info_items, info_note}
 use Rattle.puzzle_cli.proofs.Pieces.{followed_by-nil}
 
@@ -59,3 +66,21 @@ ends_failed tries answers front old new are noted = λ all told. go old new note
     go (Some before) (Some now) noted all told =
         let same : now ≡ all = cc in
         (before ++ front, sym same ∙ noted ∙ ap (λ xs. before ++ xs) are ∙ sym (append_assoc before front (replicate tries false)))
+
+-- the fault that a status of opening tells
+pub refused_by_open : (f : OpenFault) (bad : StoreBad) → open_status f ≡ status.BadStore bad → f ≡ opening.Bad bad
+refused_by_open (opening.Bad b) bad e = let same : b ≡ bad = cc in ap (λ (x : StoreBad). opening.Bad x) same
+refused_by_open opening.ReadFault bad e = absurd cc
+refused_by_open opening.Memory bad e = absurd cc
+
+pub failed_by_open : (f : OpenFault) → open_status f ≡ status.ReadFault read_at.Head → f ≡ opening.ReadFault
+failed_by_open (opening.Bad b) e = absurd cc
+failed_by_open opening.ReadFault e = refl
+failed_by_open opening.Memory e = absurd cc
+
+pub spent_is : {T : Type 0} (f : OpenFault) → f ≡ opening.ReadFault → is_spent {T = T} (Err f) ≡ true
+spent_is {T} f e = ap (λ (x : OpenFault). is_spent {T = T} (Err x)) e
+
+-- an answer that a note which isn't written has not
+pub isnt : (answer other : Status) → (answer ≡ status.OutFault) ⊎ (answer ≡ status.Memory) → (status.OutFault ≡ other → ⊥) → (status.Memory ≡ other → ⊥) → answer ≡ other → ⊥
+isnt answer other is a b h = elim is [ inl e ↦ a (sym e ∙ h) | inr e ↦ b (sym e ∙ h) ]

@@ -13,10 +13,18 @@ use Rattle.puzzle_cli.specs.Words.{asked}
 abbrev pub AsksInfo : List (String Global) → ℕ → Type 0
 AsksInfo words tries = asked (map string_bytes words) ≡ Some (Info tries)
 
+-- the numbers of the build's input
+abbrev pub input_text : Params → Bytes
+input_text p =
+    codes "info level " ++ (decimal p.l ++ (codes " digits " ++ (decimal p.digits ++ (codes " tris " ++ (decimal p.tris ++ (codes " dropped " ++ decimal p.dropped))))))
+
+-- the numbers of the build and of the store
+abbrev pub store_text : Params → ℕ → ℕ → Bytes
+store_text p records bytes =
+    codes " cap " ++ (decimal p.cap ++ (codes " budget " ++ (decimal p.budget ++ (codes " records " ++ (decimal records ++ (codes " bytes " ++ decimal bytes))))))
+
 abbrev pub info_note : Params → ℕ → ℕ → Bytes
-info_note p records bytes =
-    codes "info level " ++ (decimal p.l ++ (codes " digits " ++ (decimal p.digits ++ (codes " tris " ++ (decimal p.tris ++ (codes " dropped " ++ (decimal p.dropped
-    ++ (codes " cap " ++ (decimal p.cap ++ (codes " budget " ++ (decimal p.budget ++ (codes " records " ++ (decimal records ++ (codes " bytes " ++ decimal bytes))))))))))))))
+info_note p records bytes = input_text p ++ store_text p records bytes
 
 -- the note of a store of these bytes
 abbrev pub info_items : Table × Params → Bytes → List Item

@@ -139,4 +139,12 @@ IsUnread Ok = ⊥
 IsUnread Usage = ⊥
 IsUnread OutFault = ⊥
 IsUnread TooManyRecords = ⊥
+IsUnread (BadStore why) = ⊥
+IsUnread (ReadFault at) = ⊥
 IsUnread _ = Unit {0}
+
+-- what a command ends with that opens a store, and no other
+abbrev pub IsOfStore : Status → Type 0
+IsOfStore (BadStore why) = Unit {0}
+IsOfStore (ReadFault at) = Unit {0}
+IsOfStore _ = ⊥

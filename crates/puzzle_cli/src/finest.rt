@@ -10,7 +10,7 @@ ghost use Rattle.diamond_graph.specs.Adding.{most_centres};
 ghost use Rattle.puzzle_cli.specs.Finest.{digits_of, finest_items, finest_note, finest_split, input_for, items_of, IsAccepted};
 ghost use Rattle.puzzle_cli.specs.Numbering.{numbered_mesh, IsNumbering};
 ghost use Rattle.puzzle_cli.specs.Parts.{IsLow};
-ghost use Rattle.puzzle_cli.specs.Statuses.{status_of, IsRefused};
+ghost use Rattle.puzzle_cli.specs.Statuses.{status_of, IsOfStore, IsRefused};
 
 use crate::Status;
 use crate::export::write_mesh;
@@ -64,6 +64,7 @@ pub fn finest<I: Source, W: Blob, O: Out>(
 ) -> Status
     requires { IfSome digits (λ d. d ≤ 9) }
     ensures asked { ¬ (result ≡ Status.Usage) }
+    ensures own { ¬ IsOfStore result }
     ensures ok { result ≡ Status.Ok → ForSome (I.left input.old) (λ bytes. ForSome (W.held work.old) (λ _. (rows : List Row) (faces : List Face)
         → input_for digits bytes ≡ Ok (record { rows = rows; faces = faces })
         → Wrote (finest_items cap (digits_of digits bytes) rows faces) (O.parts out.old) (O.parts out.new) (O.notes out.old) (O.notes out.new))) }

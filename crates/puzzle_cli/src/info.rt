@@ -10,13 +10,40 @@ ghost use Rattle.patch_file.specs.Stores.{read};
 ghost use Rattle.patch_file.specs.Tables.{Table};
 ghost use Rattle.puzzle_cli.specs.declared.status.ReadAt.{ReadAt};
 ghost use Rattle.puzzle_cli.specs.declared.status.Status.{Status};
-ghost use Rattle.puzzle_cli.specs.Info.{info_items, info_note};
+ghost use Rattle.puzzle_cli.specs.Info.{info_items, info_note, input_text, store_text};
 
 use crate::Status;
 use crate::status::status_of_open;
 use patch_file::{Params, StoreReader};
 use std::alloc::{AllocError, Global};
 use tpz_io::{Blob, Failed, Out};
+
+// What the header says of the input.
+fn input_line(alloc: Global, params: &Params) -> Result<String, AllocError>
+    ensures { IfOk result (λ text. string_bytes text ≡ input_text params.now) }
+{
+    let Params {
+        l,
+        digits,
+        tris,
+        dropped,
+        ..
+    } = *params;
+    format!(in alloc; "info level {l} digits {digits} tris {tris} dropped {dropped}")
+}
+
+// What it says of the build and of the store.
+fn store_line(
+    alloc: Global,
+    params: &Params,
+    records: u32,
+    bytes: u64,
+) -> Result<String, AllocError>
+    ensures { IfOk result (λ text. string_bytes text ≡ store_text params.now records bytes) }
+{
+    let Params { cap, budget, .. } = *params;
+    format!(in alloc; " cap {cap} budget {budget} records {records} bytes {bytes}")
+}
 
 // The note: what the header says, the number of records, and the length of the whole.
 fn note_line(
@@ -27,18 +54,9 @@ fn note_line(
 ) -> Result<String, AllocError>
     ensures { IfOk result (λ line. string_bytes line ≡ info_note params.now records bytes) }
 {
-    let Params {
-        l,
-        digits,
-        tris,
-        dropped,
-        cap,
-        budget,
-        ..
-    } = *params;
-    format!(in alloc;
-        "info level {l} digits {digits} tris {tris} dropped {dropped} cap {cap} budget {budget} records {records} bytes {bytes}"
-    )
+    let front = input_line(alloc, params)?;
+    let back = store_line(alloc, params, records, bytes)?;
+    format!(in alloc; "{front}{back}")
 }
 
 // Writes the note of a store that was opened.

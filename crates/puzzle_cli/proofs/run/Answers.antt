@@ -61,6 +61,7 @@ returns-in-Finest-clause-finest g c = λ d k asks.
       complete = λ bytes told held keeps no_input no_work no_out.
           answered c.in-Finest.digits c.in-Finest.cap bytes c.finest.result (record {
             usage = c.finest.ensures.asked;
+            store = c.finest.ensures.own;
             refused = λ r. c.finest.ensures.refused r bytes told;
             accepted = λ h. c.finest.ensures.accepted h bytes told;
             few = λ h. c.finest.ensures.few h bytes told held keeps;

@@ -2,13 +2,21 @@
 use Rattle.std.proofs.Common.{◌≤◌, ◌<◌, List, length, refl, subst, inl, inr, ap, Err}
 use Rattle.tpz_base.specs.declared.shape.Point.{Point}
 use Rattle.diamond_graph.specs.Adding.{most_centres}
-use Rattle.puzzle_cli.specs.Statuses.{IsUnread}
+use Rattle.puzzle_cli.specs.Statuses.{IsOfStore, IsUnread}
+use Rattle.puzzle_cli.proofs.Completing.{unread_own}
 use Rattle.puzzle_cli.proofs.Exports.{as_told, front_as_told, split_is}
 use Rattle.puzzle_cli.proofs.ReadLemmas.{told_later}
 use Rattle.puzzle_cli.proofs.finest.finest.Goals as goal
 
 pub returns-in-Err-clause-asked : goal.returns-in-Err-clause-asked
 returns-in-Err-clause-asked g c = λ e. subst (λ s. IsUnread s) e (c.in-Err.ensures.unread c.in-Err.status refl)
+
+pub returns-in-Err-clause-own : goal.returns-in-Err-clause-own
+returns-in-Err-clause-own g c = λ h. unread_own c.in-Err.status (c.in-Err.ensures.unread c.in-Err.status refl) h
+
+pub returns-in-Err-number-clause-own : goal.returns-in-Err-number-clause-own
+returns-in-Err-number-clause-own g c = λ h.
+    elim c.in-Err-number.ensures.status [ inl e ↦ subst (λ s. IsOfStore s) e h | inr e ↦ subst (λ s. IsOfStore s) e h ]
 
 pub returns-in-Err-clause-ok : goal.returns-in-Err-clause-ok
 returns-in-Err-clause-ok g c = λ e. absurd (subst (λ s. IsUnread s) e (c.in-Err.ensures.unread c.in-Err.status refl))
