@@ -6,3 +6,5 @@ pub mod ReadLaw
 pub mod RoundTrip
 mod WorkedStores
 pub mod ThreeNumbers
+pub mod Appending
+pub mod Openings

@@ -3,7 +3,11 @@
 
 mod encode;
 mod law;
+mod opening;
 mod shape;
+mod tail;
+mod writer;
 
 pub use law::store_law;
 pub use shape::{Params, StoreBad};
+pub use writer::{StoreWriter, WriteFault};
