@@ -216,11 +216,12 @@ stands_put a m at bytes (Some held) new now stands behind some is = λ x told.
 pub stands_pending : (a : Appended) (bytes : Bytes) (told : Option Bytes) → ForSome told (Stands a) → ForSome told (Stands (record a { pending = bytes }))
 stands_pending a bytes told stands = λ x is. record { len = (stands x is).len; closed = (stands x is).closed }
 
-pub grows_pending : (a : Appended) (bytes : Bytes) → Grows a (record a { pending = bytes })
-grows_pending a bytes = record { flushed = omega arith; stored = omega arith; level = λ more. absurd (omega arith) }
+-- more is held back
+pub grows_pending : (a : Appended) (bytes : Bytes) → Grows a (record a { pending = a.pending ++ bytes })
+grows_pending a bytes = record { flushed = omega arith; stored = omega arith; level = λ more. absurd (omega arith); end = omega (arith, length-append a.pending bytes) }
 
-pub grows_more : (a b : Appended) (bytes : Bytes) → Grows a b → Grows a (record b { pending = bytes })
-grows_more a b bytes g = record { flushed = g.flushed; stored = g.stored; level = g.level }
+pub grows_more : (a b : Appended) (bytes : Bytes) → Grows a b → Grows a (record b { pending = b.pending ++ bytes })
+grows_more a b bytes g = record { flushed = g.flushed; stored = g.stored; level = g.level; end = omega (arith, length-append b.pending bytes, g.end) }
 
 pub stands_same : (a b : Appended) (s t : Option Bytes) → a ≡ b → s ≡ t → ForSome t (Stands b) → ForSome s (Stands a)
 stands_same a b s t is same stands = subst (λ (o : Option Bytes). ForSome o (Stands a)) (sym same) (subst (λ (x : Appended). ForSome t (Stands x)) (sym is) stands)

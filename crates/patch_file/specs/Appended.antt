@@ -41,6 +41,7 @@ pub record Grows (old new : Appended) : Type 0 where
   pub flushed : old.flushed ≤ new.flushed
   pub stored : old.stored ≤ new.stored
   pub level : old.flushed < new.flushed → new.flushed ≤ new.stored
+  pub end : end_of old ≤ end_of new
 
 -- the name of the format, and the open gate
 abbrev pub open_gate : Bytes

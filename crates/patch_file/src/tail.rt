@@ -80,7 +80,7 @@ impl Tail {
         requires stands { ForSome (S.held store.old) (Stands self.old) }
         ensures content { OnOk result (content self.new (S.held store.new) ≡ followed_by (content self.old (S.held store.old)) bytes.now) }
         ensures end { OnOk result (end_of self.new ≡ end_of self.old + length bytes.now) }
-        ensures grows { OnOk result (Grows self.old self.new) }
+        ensures grows { Grows self.old self.new }
         ensures stands { OnOk result (ForSome (S.held store.new) (Stands self.new)) }
         ensures closed { OnErr result (ForSome (S.held store.new) IsClosed) }
         ensures telling { is_some (S.held store.new) ≡ is_some (S.held store.old) }
@@ -101,7 +101,7 @@ impl Tail {
         requires stands { ForSome (S.held store.old) (Stands self.old) }
         ensures content { OnOk result (content self.new (S.held store.new) ≡ content self.old (S.held store.old)) }
         ensures tail { OnOk result (self.new ≡ record { stored = end_of self.old; flushed = end_of self.old; pending = [] }) }
-        ensures grows { OnOk result (Grows self.old self.new) }
+        ensures grows { Grows self.old self.new }
         ensures stands { OnOk result (ForSome (S.held store.new) (Stands self.new)) }
         ensures closed { OnErr result (ForSome (S.held store.new) IsClosed) }
         ensures telling { is_some (S.held store.new) ≡ is_some (S.held store.old) }
@@ -122,7 +122,7 @@ impl Tail {
         ensures content { OnOk result (content self.new (S.held store.new) ≡ content self.old (S.held store.old)) }
         ensures none { OnOk result (self.new.pending ≡ []) }
         ensures end { OnOk result (end_of self.new ≡ end_of self.old) }
-        ensures grows { OnOk result (Grows self.old self.new) }
+        ensures grows { Grows self.old self.new }
         ensures stands { OnOk result (ForSome (S.held store.new) (Stands self.new)) }
         ensures closed { OnErr result (ForSome (S.held store.new) IsClosed) }
         ensures telling { is_some (S.held store.new) ≡ is_some (S.held store.old) }
@@ -144,6 +144,7 @@ impl Tail {
         requires stands { ForSome (S.held store.old) (Stands self.old) }
         ensures content { OnOk result (content self.new (S.held store.new) ≡ option_map (λ before. written before at bytes.now) (content self.old (S.held store.old))) }
         ensures tail { OnOk result (self.new ≡ record self.old { stored = max self.old.stored (at + length bytes.now) }) }
+        ensures grows { Grows self.old self.new }
         ensures stands { OnOk result (ForSome (S.held store.new) (Stands self.new)) }
         ensures closed { OnErr result (ForSome (S.held store.new) IsClosed) }
         ensures telling { is_some (S.held store.new) ≡ is_some (S.held store.old) }
@@ -166,6 +167,7 @@ impl Tail {
         requires empty { ForSome (S.held store.old) (λ bytes. bytes ≡ []) }
         ensures content { OnOk result (content self.new (S.held store.new) ≡ followed_by (S.held store.old) (beginning room)) }
         ensures tail { OnOk result (self.new ≡ record { stored = 8; flushed = room; pending = [] }) }
+        ensures err { OnErr result (self.new ≡ self.old) }
         ensures stands { OnOk result (ForSome (S.held store.new) (Stands self.new)) }
         ensures brief { OnErr result (ForSome (S.held store.new) (λ bytes. length bytes < 9)) }
         ensures telling { is_some (S.held store.new) ≡ is_some (S.held store.old) }

@@ -18,10 +18,10 @@ returns-clause-content g c =
 pub returns-clause-grows : goal.returns-clause-grows
 returns-clause-grows g c =
     let now = c.if-is_full.self in
-    let bytes = now.pending ++ c.args.bytes.now in
+    let bytes = c.args.bytes.now in
     subst (Grows c.args.self.now) (sym c.push.ensures) (elim c.if-is_full.branch [
       | then-is_full+in_ok-flush w ↦ grows_more c.args.self.now now bytes (subst (Grows c.args.self.now) (sym w.self-is) w.in_ok-flush.ensures.grows)
-      | else-is_full w ↦ subst (λ (a : Appended). Grows a (record now { pending = bytes })) w.self-is (grows_pending now bytes)
+      | else-is_full w ↦ subst (λ (a : Appended). Grows a (record now { pending = now.pending ++ bytes })) w.self-is (grows_pending now bytes)
     ])
 
 pub returns-clause-stands : goal.returns-clause-stands
