@@ -1,9 +1,11 @@
 -- What calls of a device make of what is appended to a store.
-use Rattle.std.proofs.Common.{◌≡◌, ℕ, ◌+◌, ◌-◌, ◌<◌, ◌≤◌, List, [], ◌∷◌, ◌++◌, length, take, drop, replicate, min, max, inl, inr, refl, sym, ◌∙◌, ap, ap₂, subst, arith, append_assoc, length-append, length-drop}
+use Rattle.std.proofs.Common.{◌≡◌, ℕ, ◌+◌, ◌-◌, ◌<◌, ◌≤◌, List, [], ◌∷◌, ◌++◌, length, take, drop, replicate, min, max, get_or, inl, inr, refl, sym, ◌∙◌, ap, ap₂, subst, arith, append_assoc, length-append, length-drop}
 use Rattle.std.specs.Option.{ForSome, option_map}
 use Rattle.std.specs.declared.option.Option.{Option}
 use Rattle.std.specs.declared.option.Option.TheVariants.{None, Some}
-use Rattle.std.proofs.lemmas.List.{append-nil, drop-append-le, drop-replicate, drop_all, length-replicate, length-take, replicate-append-replicate, take-append-le, take-take, take_all}
+use Rattle.std.proofs.lemmas.List.{append-nil, drop-append-le, drop-replicate, drop_all, length-replicate, length-take, replicate-append-replicate, take-append-le, take-take, take_all, take_more}
+use Rattle.std.specs.Prelude.{flat_map}
+use Rattle.std.proofs.lemmas.List.Concat.{flat_map-append}
 use Rattle.std.proofs.lemmas.Bool.{cases_lt}
 use Rattle.std.proofs.Math.Seq.{drop-append-add}
 use Rattle.tpz_io.specs.Bytes.{written, IsTorn}
@@ -225,3 +227,24 @@ grows_more a b bytes g = record { flushed = g.flushed; stored = g.stored; level 
 
 pub stands_same : (a b : Appended) (s t : Option Bytes) → a ≡ b → s ≡ t → ForSome t (Stands b) → ForSome s (Stands a)
 stands_same a b s t is same stands = subst (λ (o : Option Bytes). ForSome o (Stands a)) (sym same) (subst (λ (x : Appended). ForSome t (Stands x)) (sym is) stands)
+
+-- What follows what is told.
+
+pub followed_by-append : (told : Option Bytes) (a b : Bytes) → followed_by (followed_by told a) b ≡ followed_by told (a ++ b)
+followed_by-append None a b = refl
+followed_by-append (Some items) a b = ap Some (append_assoc items a b)
+
+pub Grows-then : (a b c : Appended) → Grows a b → Grows b c → Grows a c
+Grows-then a b c g h = record {
+  flushed = omega (arith, g.flushed, h.flushed);
+  stored = omega (arith, g.stored, h.stored);
+  level = λ more. elim (cases_lt b.flushed c.flushed) [
+    | inl later ↦ h.level later
+    | inr same ↦ let first : b.flushed ≤ b.stored = g.level (omega (arith, more, same)) in omega (arith, same, first, h.stored)
+  ];
+  end = omega (arith, g.end, h.end);
+}
+
+pub one_more_item : {X : Type 0} (f : X → Bytes) (xs : List X) (i : ℕ) (d : X) → i < length xs → flat_map f (take i xs) ++ f (get_or xs i d) ≡ flat_map f (take (i + 1) xs)
+one_more_item f xs i d below =
+    sym (ap (flat_map f) (take_more xs i d below) ∙ flat_map-append f (take i xs) (get_or xs i d ∷ []) ∙ ap (λ (l : Bytes). flat_map f (take i xs) ++ l) (append-nil (f (get_or xs i d))))

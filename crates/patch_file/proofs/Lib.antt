@@ -8,3 +8,4 @@ mod WorkedStores
 pub mod ThreeNumbers
 pub mod Appending
 pub mod Openings
+pub mod WriterSteps

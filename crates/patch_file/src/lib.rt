@@ -3,6 +3,7 @@
 
 mod encode;
 mod law;
+mod moves;
 mod opening;
 mod shape;
 mod tail;

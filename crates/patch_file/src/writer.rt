@@ -8,7 +8,8 @@ ghost use Rattle.patch_file.specs.Bytes.{counted, entry_bytes, move_bytes as byt
 ghost use Rattle.patch_file.specs.Appended.{beginning, content, IsClosed, IsNotOpen, Stands};
 ghost use Rattle.patch_file.specs.Writing.{after_block, at_base, begun, claimed, further, record_place, was_answered, with_header};
 
-use crate::encode::{header_bytes, move_bytes, record_bytes, tri_bytes};
+use crate::encode::{header_bytes, record_bytes, tri_bytes};
+use crate::moves::append_moves;
 use crate::opening::open_store;
 use crate::shape::Params;
 use crate::tail::Tail;
@@ -144,11 +145,7 @@ impl StoreWriter {
         ensures outcomes { S.outcomes store.new ≡ S.outcomes store.old }
         ensures cause { HasCause (S.faults store.old) (S.faults store.new) result }
     {
-        self.tail.append(store, &(moves.len() as u32).to_le_bytes())?;
-        for m in moves {
-            self.tail.append(store, &move_bytes(*m))?;
-        }
-        Ok(())
+        append_moves(&mut self.tail, store, moves)
     }
 
     /// Writes the record of the block in hand, which ends here: of the records that aren't written, the last one.
