@@ -16,7 +16,7 @@ use Rattle.patch_file.specs.Appended.{open_gate, closed_fields, IsClosed, IsNotO
 use Rattle.patch_file.proofs.Appending.{closed_long}
 
 -- a write within what a list has
-written_within : (old bytes : Bytes) (at : ℕ) → at ≤ length old → 0 < length bytes → written old at bytes ≡ take at old ++ bytes ++ drop (at + length bytes) old
+pub written_within : (old bytes : Bytes) (at : ℕ) → at ≤ length old → 0 < length bytes → written old at bytes ≡ take at old ++ bytes ++ drop (at + length bytes) old
 written_within old bytes at le some =
     written_some old bytes at some ∙ ap (λ (l : Bytes). l ++ bytes ++ drop (at + length bytes) old) (take-append-le at old (replicate (at - length old) 0) le)
 

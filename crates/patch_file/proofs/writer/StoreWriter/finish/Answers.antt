@@ -6,7 +6,7 @@ use Rattle.patch_file.specs.Bytes.{Bytes, head_bytes}
 use Rattle.patch_file.specs.Appended.{content, IsNotOpen}
 use Rattle.patch_file.specs.Writing.{WriterState, IsSound, with_header}
 use Rattle.patch_file.proofs.Appending.{stands_same}
-use Rattle.patch_file.proofs.WriterSteps.{sound_more, header_over, left_over, refused_closed, over}
+use Rattle.patch_file.proofs.WriterSteps.{sound_more, header_over, left_over, over}
 use Rattle.patch_file.proofs.writer.StoreWriter.finish.Given.{Over}
 use Rattle.patch_file.proofs.writer.StoreWriter.finish.Goals as goal
 
