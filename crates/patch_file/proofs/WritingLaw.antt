@@ -1,20 +1,20 @@
 -- The calls of a writer in order make the bytes of a table.
-use Rattle.std.proofs.Common.{◌≡◌, ◌≢◌, ℕ, ◌+◌, ◌-◌, ◌*◌, ◌^◌, ◌<◌, ◌≤◌, ◌⊎◌, Bool, true, false, not, List, [], ◌∷◌, ◌++◌, length, drop, replicate, take, inl, inr, refl, sym, ◌∙◌, ap, ap₂, subst, arith, append_assoc, length-append}
-use Rattle.std.specs.Prelude.{Result, Ok, Err, flat_map, nat_lt, ◌==◌, is_some}
+use Rattle.std.proofs.Common.{◌≡◌, ℕ, ◌+◌, ◌-◌, ◌*◌, ◌<◌, ◌≤◌, ◌⊎◌, true, List, [], ◌∷◌, ◌++◌, length, drop, replicate, inl, inr, refl, sym, ◌∙◌, ap, ap₂, arith, append_assoc, length-append}
+use Rattle.std.specs.Prelude.{is_some}
 use Rattle.std.specs.Option.{ForSome, option_map}
 use Rattle.std.specs.declared.option.Option.{Option}
 use Rattle.std.specs.declared.option.Option.TheVariants.{None, Some}
-use Rattle.std.proofs.lemmas.List.{append-nil, drop_at, length-replicate, replicate-append-replicate, take-append-drop, take_at}
+use Rattle.std.proofs.lemmas.List.{append-nil, drop_at, length-replicate, replicate-append-replicate, take_at}
 use Rattle.tpz_io.specs.Bytes.{written}
 use Rattle.tpz_io.specs.Told.{followed_by}
 use Rattle.diamond_graph.specs.declared.record.Record.{Record}
 use Rattle.patch_file.specs.declared.shape.Params.{Params}
 use Rattle.patch_file.specs.Tables.{Table, TableRecord}
 use Rattle.patch_file.specs.Bytes.{Bytes, base_bytes, base_offset, block_bytes, blocks_bytes, bytes_of, entry_bytes, head_bytes, records_bytes}
-use Rattle.patch_file.specs.Appended.{beginning, closed_fields, content, IsClosed, IsNotOpen}
+use Rattle.patch_file.specs.Appended.{beginning, closed_fields, content, IsNotOpen}
 use Rattle.patch_file.specs.Writing.{Progress, WriterState, after_block, at_base, begun, further, record_place, with_header}
 use Rattle.patch_file.specs.Written.{so_far, HasWritten}
-use Rattle.patch_file.proofs.RecordsTrip.{blocks-cons, lengths}
+use Rattle.patch_file.proofs.RecordsTrip.{blocks-cons}
 use Rattle.patch_file.proofs.RoundTrip.{records_long}
 use Rattle.patch_file.proofs.Openings.{written_within}
 
@@ -57,7 +57,7 @@ put_between front zeros old blocks new bytes place at same some =
     ap (λ (l : Bytes). written l place bytes) is
     ∙ written_within all bytes place inside some
     ∙ ap₂ (λ (x y : Bytes). x ++ bytes ++ y) (take_at front (zeros ++ rest) place at)
-      (ap (drop (place + length bytes)) (sym (append_assoc front zeros rest)) ∙ drop_at (front ++ zeros) rest (place + length bytes) both)
+    (ap (drop (place + length bytes)) (sym (append_assoc front zeros rest)) ∙ drop_at (front ++ zeros) rest (place + length bytes) both)
     ∙ simp append_assoc
 
 -- one record more
@@ -76,7 +76,7 @@ so_far-cons count rs r fits =
     ap (λ (l : Bytes). written (l ++ records_bytes first rs ++ blocks_bytes rs ++ block_bytes r) place entry) room
     ∙ put_between (beginning place) zeros (records_bytes first rs) (blocks_bytes rs) (block_bytes r) entry place (length-beginning place (omega arith)) (sym size) (omega (arith, size))
     ∙ ap₂ (λ (n : ℕ) (l : Bytes). beginning (80 + 64 * n) ++ (entry ++ records_bytes first rs) ++ l)
-      (let e : count - length rs - 1 ≡ count - length (r ∷ rs) = omega arith in e) (sym (blocks-cons r rs))
+    (let e : count - length rs - 1 ≡ count - length (r ∷ rs) = omega arith in e) (sym (blocks-cons r rs))
 
 -- the header over the first 80 bytes of all records, their blocks and the base
 pub so_far-whole : (tb : Table) (params : Params)

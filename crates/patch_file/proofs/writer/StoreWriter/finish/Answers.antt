@@ -1,10 +1,9 @@
-use Rattle.std.proofs.Common.{◌≡◌, ◌++◌, ◌∙◌, ◌⊎◌, ℕ, drop, refl, sym, ap, subst}
+use Rattle.std.proofs.Common.{◌≡◌, ◌∙◌, ◌⊎◌, ℕ, refl, ap, subst}
 use Rattle.std.proofs.lemmas.Result.{on_ok_weaker, on_err_weaker}
 use Rattle.std.specs.Option.{ForSome, option_map}
-use Rattle.diamond_graph.proofs.AddingLaw.{on_err_always}
 use Rattle.patch_file.specs.Bytes.{Bytes, head_bytes}
 use Rattle.patch_file.specs.Appended.{content, IsNotOpen}
-use Rattle.patch_file.specs.Writing.{WriterState, IsSound, with_header}
+use Rattle.patch_file.specs.Writing.{WriterState, IsSound}
 use Rattle.patch_file.proofs.Appending.{stands_same}
 use Rattle.patch_file.proofs.WriterSteps.{sound_more, header_over, left_over, over}
 use Rattle.patch_file.proofs.writer.StoreWriter.finish.Given.{Over}
@@ -42,7 +41,7 @@ returns-clause-held g c =
     let hd = c.header_bytes-header.result in
     on_ok_weaker c.open_store.result
     (λ (e : g.S.Blob.held c.open_store.new.store ≡ option_map (over hd) (g.S.Blob.held c.settle.new.store)).
-      e ∙ behind_is g c hd ∙ ap (λ (h : Bytes). option_map (over h) (content c.args.self.tail (g.S.Blob.held c.args.store.now))) (header_is g c))
+    e ∙ behind_is g c hd ∙ ap (λ (h : Bytes). option_map (over h) (content c.args.self.tail (g.S.Blob.held c.args.store.now))) (header_is g c))
     c.open_store.ensures.held
 
 pub returns-clause-refused : goal.returns-clause-refused
@@ -53,5 +52,5 @@ returns-clause-refused g c =
     let all = content c.args.self.tail (g.S.Blob.held c.args.store.now) in
     on_err_weaker c.open_store.result
     (λ (h : ForSome new (λ bytes. IsNotOpen bytes ⊎ ForSome mid (λ before. bytes ≡ over hd before))).
-      subst (λ (x : Bytes). ForSome new (λ bytes. IsNotOpen bytes ⊎ ForSome all (λ before. bytes ≡ over x before))) (header_is g c) (left_over hd mid all new (behind_is g c hd) h))
+    subst (λ (x : Bytes). ForSome new (λ bytes. IsNotOpen bytes ⊎ ForSome all (λ before. bytes ≡ over x before))) (header_is g c) (left_over hd mid all new (behind_is g c hd) h))
     c.open_store.ensures.refused
