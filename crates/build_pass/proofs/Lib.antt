@@ -1,1 +1,2 @@
 mod WorkedMeshes
+mod WorkedTables
