@@ -1,2 +1,4 @@
 mod WorkedMeshes
 mod WorkedTables
+pub mod Reduced
+pub mod Shares
