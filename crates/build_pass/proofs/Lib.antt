@@ -2,3 +2,4 @@ mod WorkedMeshes
 mod WorkedTables
 pub mod Reduced
 pub mod Shares
+pub mod CutSteps
