@@ -114,7 +114,7 @@ pub record IsNext (L : ℕ) (F : List Point) (i : ℕ) (d : Point) : Type 0 wher
   pub here : slice_get F i ≡ Some d
 
 module _ (L : ℕ) (F : List Point) (i : ℕ) (d : Point) (h : IsNext L F i d) where
-  ascends : Ascending (record_lt L) F
+  pub ascends : Ascending (record_lt L) F
   ascends = subst (Ascending (record_lt L)) h.closed.order (in_order-ascends L F)
 
   splits : (x : Point) → Member F x → IsSplittable L x
@@ -132,7 +132,7 @@ module _ (L : ℕ) (F : List Point) (i : ℕ) (d : Point) (h : IsNext L F i d) w
   next_splits = splits d next_in
 
   -- the levels of the front are no greater
-  front_level : (x : Point) → Member (take i F) x → level_of L x ≤ level_of L d
+  pub front_level : (x : Point) → Member (take i F) x → level_of L x ≤ level_of L d
   front_level x m = record_lt-level L x d (front_below (record_lt L) F i d x ascends h.here m)
 
   pub absent : has_diamond (take i F) d ≡ false

@@ -3,3 +3,4 @@ mod WorkedTables
 pub mod Reduced
 pub mod Shares
 pub mod CutSteps
+pub mod EntryLaw
