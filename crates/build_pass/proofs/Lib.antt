@@ -4,3 +4,5 @@ pub mod Reduced
 pub mod Shares
 pub mod CutSteps
 pub mod EntryLaw
+pub mod RightLaw
+pub mod SaturatedLaw
