@@ -6,3 +6,4 @@ pub mod CutSteps
 pub mod EntryLaw
 pub mod RightLaw
 pub mod SaturatedLaw
+pub mod Weights
