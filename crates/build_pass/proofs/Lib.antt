@@ -7,3 +7,4 @@ pub mod EntryLaw
 pub mod RightLaw
 pub mod SaturatedLaw
 pub mod Weights
+pub mod LengthLaw
