@@ -1,7 +1,7 @@
 pub mod Dividing
-mod Moving
+pub mod Moving
 mod Crowding
-mod Rooting
+pub mod Rooting
 mod CrowdLaw
-mod Naming
+pub mod Naming
 pub mod Placing

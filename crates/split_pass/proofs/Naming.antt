@@ -24,7 +24,7 @@ use Rattle.split_pass.proofs.Moving.{live_differs, same_name, Makes}
 pub some_same : (x y : StreamId) → Some x ≡ Some y → x ≡ y
 some_same x y e = cc
 
-ties_itself : (a : Tet) → eq_by_cmp tet_cmp a a ≡ true
+pub ties_itself : (a : Tet) → eq_by_cmp tet_cmp a a ≡ true
 ties_itself a = (eq_by_cmp_equiv tet_cmp_total).refl a
 
 -- two names are the same or not

@@ -12,6 +12,7 @@ mod root;
 
 pub use fault::SplitFault;
 pub use pass::split;
+pub use place::stream_of;
 
 #[cfg(test)]
 mod tests;

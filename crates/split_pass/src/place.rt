@@ -24,8 +24,8 @@ use tpz_base::Tri;
 use tpz_io::Blob;
 use tri_stream::{StreamId, Streams};
 
-/// The stream of a leaf. Where it has none, a new one without triangles becomes its stream.
-fn stream_of(streams: &mut Streams, leaves: &mut Leaves, leaf: Tet) -> Result<StreamId, AllocError>
+/// The stream of a tetrahedron by its name. Where it has none, a new one without triangles becomes its stream.
+pub fn stream_of(streams: &mut Streams, leaves: &mut Leaves, leaf: Tet) -> Result<StreamId, AllocError>
     requires { (id : StreamId) → map.get leaves.old leaf ≡ Some id → IsLive streams.old id }
     ensures stream { IfOk result (λ id. Names leaf id leaves.old leaves.new streams.old streams.new) }
     ensures base { streams.new.base ≡ streams.old.base }

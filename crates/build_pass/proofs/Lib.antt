@@ -1,0 +1,4 @@
+pub mod Sums
+pub mod Tables
+pub mod PartNames
+pub mod Sharing
