@@ -2,3 +2,9 @@ pub mod Sums
 pub mod Tables
 pub mod PartNames
 pub mod Sharing
+mod WorkedMeshes
+mod WorkedTables
+pub mod Reduced
+pub mod Shares
+pub mod CutSteps
+pub mod EntryLaw

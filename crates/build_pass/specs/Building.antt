@@ -1,34 +1,25 @@
 -- The table that a build makes of a mesh.
-use Rattle.std.specs.Prelude.{◌≡◌, ◌≤◌, ◌<◌, ℕ, zero, suc, ◌+◌, ◌-◌, ◌*◌, max, false, true, List, [], ◌∷◌, None, length, map, fold, filter, flat_map, nat_le, if◌then◌else◌, Ok, ℤ, unsigned_abs}
+use Rattle.std.specs.Prelude.{◌≡◌, ◌≤◌, ◌<◌, ℕ, zero, suc, ◌+◌, ◌-◌, ◌*◌, false, true, List, [], ◌∷◌, None, length, map, fold, filter, flat_map, nat_le, if◌then◌else◌, Ok, ℤ, unsigned_abs}
 use Rattle.std.specs.List.{list_all}
 use Rattle.std.specs.Option.{option_map_or}
 use Rattle.tpz_base.specs.declared.shape.Point.{Point}
 use Rattle.tpz_base.specs.declared.shape.Move.{Move}
 use Rattle.tpz_base.specs.declared.shape.Cell.{Cell}
-use Rattle.tpz_base.specs.Points.{max_dist}
-use Rattle.tpz_base.specs.Boxes.{hull, hull_point}
+use Rattle.tpz_base.specs.Boxes.{hull_point}
 use Rattle.tpz_base.specs.Meshes.{Mesh, corners_of}
 use Rattle.tpz_base.specs.Collapses.{Simplified, at_rest, simplify, moves_of}
 use Rattle.tpz_base.specs.Tetrahedra.{Tetrahedron, diamond, roots, parts, kids, tetrahedron_eq}
 use Rattle.tpz_base.specs.Cuts.{has_diamond}
 use Rattle.tpz_base.specs.Diamonds.{level_of}
 use Rattle.diamond_graph.specs.declared.record.Record.{Record}
-use Rattle.diamond_graph.specs.Graphs.{fresh_record, with_errors}
-use Rattle.diamond_graph.specs.Saturated.{greatest_err}
+use Rattle.diamond_graph.specs.Graphs.{fresh_record}
+use Rattle.saturate.specs.Raised.{greatest_length, raised}
 use Rattle.assign.specs.Leaf.{leaf_patch, nearest}
 use Rattle.assign.specs.Splits.{split_set}
 use Rattle.patch_file.specs.declared.shape.Params.{Params}
 use Rattle.patch_file.specs.Tables.{Table, TableRecord}
 use Rattle.patch_file.specs.Bytes.{Bytes, bytes_of}
 use Rattle.patch_file.specs.Blocks.{is_right_tri}
-
--- the greatest distance of a move, 0 where there is none
-unfoldable pub own_error : List Move → ℕ
-own_error ms = fold max 0 (map (λ (m : Move). max_dist m.from m.to) ms)
-
--- the record with this own error, and with the error and the box that follow from it, a box, and the records of its kids
-unfoldable pub raised : Record → ℕ → Cell → List Record → Record
-raised r own box ks = with_errors r own (own + greatest_err ks) (fold hull box (map (λ (k : Record). k.cell) ks))
 
 -- a list simplified, but as it is where it is past the budget
 abbrev pub reduced : ℕ → Mesh → Simplified
@@ -64,7 +55,7 @@ fine_box L budget F M d = fold hull_point (fresh_record d).cell (corners_of (fin
 unfoldable pub entry_above : ℕ → ℕ → List Point → Mesh → ℕ → Point → Record
 entry_above L budget F M zero d = fresh_record d
 entry_above L budget F M (suc n) d =
-    raised (fresh_record d) (own_error (built_moves L budget F M d)) (fine_box L budget F M d)
+    raised (fresh_record d) (greatest_length (built_moves L budget F M d)) (fine_box L budget F M d)
     (map (entry_above L budget F M n) (filter (has_diamond F) (kids L d)))
 
 unfoldable pub built_entry : ℕ → ℕ → List Point → Mesh → Point → Record
