@@ -18,13 +18,11 @@ use Rattle.tetra_name.specs.Names.{point_of, tetrahedron_of, IsName}
 use Rattle.tetra_name.proofs.EveryName.{names_each}
 use Rattle.tetra_name.proofs.NameFacts.{some_is}
 use Rattle.tri_stream.specs.declared.names.StreamId.{StreamId}
-use Rattle.tri_stream.specs.Streams.{StreamsState, count_of, list_of, told_list, total, LeavesAll}
+use Rattle.tri_stream.specs.Streams.{StreamsState, count_of, list_of, told_list, total, LeavesAll, size_of}
 use Rattle.assign.specs.Leaf.{nearest}
 use Rattle.assign.specs.Names.{LeafTable}
-use Rattle.split_pass.specs.Moves.{size_of}
-use Rattle.split_pass.proofs.Moving.{same_size}
-use Rattle.split_pass.proofs.Naming.{same_tet}
-use Rattle.split_pass.proofs.Placing.{all_taken, one_more}
+use Rattle.tri_stream.proofs.Changes.{same_size, all_taken, one_more}
+use Rattle.assign.proofs.NameTables.{same_tet}
 use Rattle.build_pass.specs.Building.{nearest_to}
 use Rattle.build_pass.specs.Keyed.{list_named, stream_at, told_named, Adds, Gains, IsKeyed, Shares, Weighs}
 use Rattle.build_pass.proofs.Sums.{sum_same}

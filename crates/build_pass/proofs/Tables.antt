@@ -11,12 +11,12 @@ use Rattle.tpz_base.specs.Meshes.{Mesh}
 use Rattle.tetra_name.specs.declared.shape.Tet.{Tet}
 use Rattle.tri_stream.specs.declared.names.Cursor.{Cursor}
 use Rattle.tri_stream.specs.declared.names.StreamId.{StreamId}
-use Rattle.tri_stream.specs.Streams.{StreamsState, count_of, list_of, told_list, total, Follows, IsLive, LeavesOthers, Stands}
+use Rattle.tri_stream.specs.Streams.{StreamsState, count_of, list_of, told_list, total, Follows, IsLive, LeavesOthers, Stands, size_of}
 use Rattle.assign.specs.Names.{tet_cmp, LeafTable}
 use Rattle.assign.proofs.TableLaw.{tet_cmp_same, tet_cmp_total}
-use Rattle.split_pass.specs.Moves.{size_of, Names}
-use Rattle.split_pass.proofs.Moving.{live_differs, live_size, same_name, same_size}
-use Rattle.split_pass.proofs.Naming.{same_tet, some_same, ties_itself}
+use Rattle.assign.specs.Naming.{Names}
+use Rattle.tri_stream.proofs.Changes.{live_differs, live_size, same_name, same_size}
+use Rattle.assign.proofs.NameTables.{same_tet, some_same, ties_itself}
 use Rattle.build_pass.specs.Keyed.{level_named, list_named, size_named, stream_at, sum_below, told_named, Adds, Drops, IsKeyed, Weighs}
 use Rattle.build_pass.proofs.Sums.{sum_beyond, sum_but}
 

@@ -12,9 +12,8 @@ use Rattle.tetra_name.specs.declared.shape.Tet.{Tet}
 use Rattle.tetra_name.specs.Names.{half_of, point_of, tetrahedron_of}
 use Rattle.tri_stream.specs.declared.names.Cursor.{Cursor}
 use Rattle.tri_stream.specs.declared.names.StreamId.{StreamId}
-use Rattle.tri_stream.specs.Streams.{StreamsState, count_of, list_of, total, Follows, IsLive}
+use Rattle.tri_stream.specs.Streams.{StreamsState, count_of, list_of, total, Follows, IsLive, size_of}
 use Rattle.assign.specs.Names.{LeafTable}
-use Rattle.split_pass.specs.Moves.{size_of}
 use Rattle.build_pass.specs.Building.{nearest_to}
 
 -- the name of a tetrahedron: its diamond, and its place among the members

@@ -4,13 +4,12 @@ ghost use Rattle.build_pass.specs.declared.fault.BuildFault.{BuildFault};
 ghost use Rattle.std.specs.Option.{ForSome};
 ghost use Rattle.tpz_base.specs.Cubes.{IsTriInCube};
 ghost use Rattle.tpz_base.specs.Meshes.{is_whole};
-ghost use Rattle.tri_stream.specs.Streams.{total, Stands};
-ghost use Rattle.split_pass.specs.Moves.{Stays};
+ghost use Rattle.tri_stream.specs.Streams.{total, Stands, Stays};
 ghost use Rattle.build_pass.specs.Keyed.{size_named, Adds, Drops, IsKeyed};
 
 use crate::fault::BuildFault;
-use assign::Leaves;
-use split_pass::stream_of;
+use assign::{Leaves, stream_of};
+
 use tetra_name::Tet;
 use tpz_base::Tri;
 use tpz_io::Blob;

@@ -7,8 +7,7 @@ ghost use Rattle.std.specs.Option.{ForSome};
 ghost use Rattle.tpz_base.specs.Cubes.{IsTriInCube};
 ghost use Rattle.tpz_base.specs.Meshes.{is_whole};
 ghost use Rattle.tetra_name.specs.Names.{point_of, IsBound, IsCentre};
-ghost use Rattle.tri_stream.specs.Streams.{told_list, total, Stands};
-ghost use Rattle.split_pass.specs.Moves.{size_of, Stays};
+ghost use Rattle.tri_stream.specs.Streams.{told_list, total, Stands, size_of, Stays};
 ghost use Rattle.build_pass.specs.Keyed.{Gains, IsKeyed, Shares};
 
 use crate::fault::BuildFault;

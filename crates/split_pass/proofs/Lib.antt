@@ -1,7 +1,7 @@
 pub mod Dividing
-pub mod Moving
+mod Moving
 mod Crowding
-pub mod Rooting
+mod Rooting
 mod CrowdLaw
-pub mod Naming
+mod Naming
 pub mod Placing

@@ -12,7 +12,6 @@ mod root;
 
 pub use fault::SplitFault;
 pub use pass::split;
-pub use place::stream_of;
 
 #[cfg(test)]
 mod tests;

@@ -2,10 +2,8 @@
 use Rattle.std.proofs.Common.{◌≡◌, ◌+◌, ◌∙◌, Some, None, refl, sym, ap, arith}
 use Rattle.std.proofs.lemmas.Grind.{common_steps}
 use Rattle.std.specs.Prelude.{slice_get}
-use Rattle.tri_stream.specs.Streams.{told_list, IsLive}
-use Rattle.split_pass.specs.Moves.{size_of}
-use Rattle.split_pass.proofs.Moving.{same_size}
-use Rattle.split_pass.proofs.Placing.{reads_more}
+use Rattle.tri_stream.specs.Streams.{told_list, IsLive, size_of}
+use Rattle.tri_stream.proofs.Changes.{same_size, reads_more}
 use Rattle.build_pass.proofs.Sharing.{count_kept, gains_end, gains_next, gains_start, list_kept, read_all, shares_end, shares_next, shares_start}
 use Rattle.build_pass.proofs.share.pass_on.Goals as goal
 
