@@ -1,3 +1,7 @@
+pub mod Sums
+pub mod Tables
+pub mod PartNames
+pub mod Sharing
 mod WorkedMeshes
 mod WorkedTables
 pub mod Reduced

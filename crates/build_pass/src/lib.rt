@@ -3,3 +3,10 @@
 //! The records are gone through from the last to the first. The patches of the children of a diamond's members are joined, the joined list is simplified
 //! where it is within the budget, and its triangles are given to the nearest members, whose patches they are from then on.
 #![tactic(auto)]
+
+mod fault;
+mod keyed;
+mod names;
+mod share;
+
+pub use fault::BuildFault;
