@@ -12,3 +12,4 @@ pub mod RightLaw
 pub mod SaturatedLaw
 pub mod Weights
 pub mod LengthLaw
+pub mod Weighing
