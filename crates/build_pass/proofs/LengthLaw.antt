@@ -43,7 +43,7 @@ at_least_one f (y ∷ ys) x m =
       | inr k ↦ (let rest = at_least_one f ys x k in omega (arith, step, rest))
     ]
 
-less_on : {X : Type 0} (f g : X → ℕ) (xs : List X) → ((x : X) → Member xs x → f x ≤ g x) → sum_by f xs ≤ sum_by g xs
+pub less_on : {X : Type 0} (f g : X → ℕ) (xs : List X) → ((x : X) → Member xs x → f x ≤ g x) → sum_by f xs ≤ sum_by g xs
 less_on f g [] h = omega arith
 less_on f g (x ∷ xs) h =
     let a = sum_by-cons f x xs in

@@ -13,3 +13,6 @@ pub mod SaturatedLaw
 pub mod Weights
 pub mod LengthLaw
 pub mod Weighing
+pub mod TableLaw
+pub mod StoreLength
+pub mod StoreTrip
