@@ -6,7 +6,9 @@
 
 mod fault;
 mod keyed;
+mod law;
 mod names;
 mod share;
 
 pub use fault::BuildFault;
+pub use law::build_law;
