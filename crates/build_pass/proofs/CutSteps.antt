@@ -98,13 +98,13 @@ front_more (y ∷ F) (suc i) d x is = ap (λ b. point_eq y x || b) (front_more F
   assoc true b c = refl
   assoc false b c = refl
 
-in_front : (F : List Point) (i : ℕ) (x : Point) → Member (take i F) x → Member F x
+pub in_front : (F : List Point) (i : ℕ) (x : Point) → Member (take i F) x → Member F x
 in_front [] zero x m = m
 in_front [] (suc i) x m = m
 in_front (y ∷ F) zero x m = absurd m
 in_front (y ∷ F) (suc i) x m = elim m [ inl e ↦ inl e | inr k ↦ inr (in_front F i x k) ]
 
-conforming_parent : (L : ℕ) (F : List Point) (d p : Point) → IsConforming L F → Member F d → Member (parents L d) p → has_diamond F p ≡ true
+pub conforming_parent : (L : ℕ) (F : List Point) (d p : Point) → IsConforming L F → Member F d → Member (parents L d) p → has_diamond F p ≡ true
 unfolding IsConforming
 conforming_parent L F d p h m k = at_all (has_diamond F) (parents L d) p (at_all (has_parents L F) F d h m) k
 
@@ -117,7 +117,7 @@ module _ (L : ℕ) (F : List Point) (i : ℕ) (d : Point) (h : IsNext L F i d) w
   pub ascends : Ascending (record_lt L) F
   ascends = subst (Ascending (record_lt L)) h.closed.order (in_order-ascends L F)
 
-  splits : (x : Point) → Member F x → IsSplittable L x
+  pub splits : (x : Point) → Member F x → IsSplittable L x
   splits x m = splittable L x (member_all (CanSplit L) F x h.closed.can_split m)
 
   got : (F : List Point) (i : ℕ) → slice_get F i ≡ Some d → Member F d
@@ -141,7 +141,7 @@ module _ (L : ℕ) (F : List Point) (i : ℕ) (d : Point) (h : IsNext L F i d) w
       true≢false (sym (front_below (record_lt L) F i d d ascends h.here (has-member (take i F) d k)) ∙ record_lt-same L d))
 
   -- whatever is of a lower level is in the front
-  in_before : (x : Point) → Member F x → level_of L x < level_of L d → Member (take i F) x
+  pub in_before : (x : Point) → Member F x → level_of L x < level_of L d → Member (take i F) x
   in_before x m low =
       elim (three_parts (record_lt L) F i d x ascends h.here m) [
         | inl k ↦ k

@@ -55,7 +55,7 @@ named_records rs f p (k ∷ ks) h g =
       | inr e ↦ (let here = g k (inl refl) e in rw (here, e) rest)
     ]
 
-map_same_on : {X Y : Type 0} (f g : X → Y) (xs : List X) → ((x : X) → Member xs x → f x ≡ g x) → map f xs ≡ map g xs
+pub map_same_on : {X Y : Type 0} (f g : X → Y) (xs : List X) → ((x : X) → Member xs x → f x ≡ g x) → map f xs ≡ map g xs
 map_same_on f g [] h = refl
 map_same_on f g (x ∷ xs) h = ap₂ (λ y ys. y ∷ ys) (h x (inl refl)) (map_same_on f g xs (λ y m. h y (inr m)))
 

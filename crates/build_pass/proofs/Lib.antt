@@ -11,3 +11,11 @@ pub mod Reduced
 pub mod Shares
 pub mod CutSteps
 pub mod EntryLaw
+pub mod RightLaw
+pub mod SaturatedLaw
+pub mod Weights
+pub mod LengthLaw
+pub mod Weighing
+pub mod TableLaw
+pub mod StoreLength
+pub mod StoreTrip
