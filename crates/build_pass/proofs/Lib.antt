@@ -2,6 +2,9 @@ pub mod Sums
 pub mod Tables
 pub mod PartNames
 pub mod Sharing
+pub mod Parts
+pub mod Loading
+pub mod Ending
 mod WorkedMeshes
 mod WorkedTables
 pub mod Reduced

@@ -104,7 +104,7 @@ weight_other w k v n ne = ap (λ b. cond b v (w n)) (false_from_ne_true (n == k)
 scaled : (a b v w : ℕ) → a ≡ b → v ≡ w → a * v ≡ b * w
 scaled a b v w e f = ap₂ (λ (x y : ℕ). x * y) e f
 
-one_scaled : (n v : ℕ) → (n + 1) * v ≡ n * v + v
+pub one_scaled : (n v : ℕ) → (n + 1) * v ≡ n * v + v
 one_scaled n v = omega arith
 
 -- .. of a triangle that is added

@@ -1,5 +1,5 @@
 -- Streams by the names of tetrahedra, as a table has them.
-use Rattle.std.specs.Prelude.{◌≡◌, ◌≢◌, ◌≤◌, ℕ, zero, suc, ◌+◌, ◌*◌, ◌∷◌, ◌++◌, [], List, Option, None, Some, map, flat_map, sum_by}
+use Rattle.std.specs.Prelude.{◌≡◌, ◌≢◌, ◌≤◌, ℕ, zero, suc, ◌+◌, ◌*◌, ◌∷◌, ◌++◌, [], List, Option, None, Some, map, flat_map, sum_by, Contains, length, max, false}
 use Rattle.std.specs.FinMap.{get}
 use Rattle.std.specs.List.{position_or_len}
 use Rattle.std.specs.Option.{option_map, option_map_or}
@@ -14,6 +14,7 @@ use Rattle.tri_stream.specs.declared.names.Cursor.{Cursor}
 use Rattle.tri_stream.specs.declared.names.StreamId.{StreamId}
 use Rattle.tri_stream.specs.Streams.{StreamsState, count_of, list_of, total, Follows, IsLive, size_of}
 use Rattle.assign.specs.Names.{LeafTable}
+use Rattle.edge_collapse.specs.Benches.{BenchState}
 use Rattle.build_pass.specs.Building.{nearest_to}
 
 -- the name of a tetrahedron: its diamond, and its place among the members
@@ -102,3 +103,21 @@ pub record Shares (L : ℕ) (c : Half) (n : ℕ) (leaves leaves' : LeafTable) (o
 pub record Gains (L : ℕ) (c : Half) (M : Mesh) (leaves leaves' : LeafTable) (old new : StreamsState) (before now : Option (List ℕ)) : Type 0 where
   pub list : (x : Tet) (T : Tetrahedron) → x.centre ≡ c → tetrahedron_of L x ≡ Some T
       → told_named new now leaves' x ≡ option_map (λ list. list ++ nearest_to L (point_of c) T M) (told_named old before leaves x)
+
+-- The streams of these names have ended, and those of all other names are as before.
+pub record DropsAll (L : ℕ) (level : ℕ) (names : List Tet) (leaves leaves' : LeafTable) (old new : StreamsState) (before now : Option (List ℕ)) : Type 0 where
+  pub keyed : IsKeyed leaves' new
+  pub gone : (x : Tet) → Contains names x → get leaves' x ≡ None
+  pub rest : (x : Tet) → ¬ Contains names x → get leaves' x ≡ get leaves x
+  pub lists : (x : Tet) → ¬ Contains names x → told_named new now leaves' x ≡ told_named old before leaves x
+  pub counts : (x : Tet) (id : StreamId) → ¬ Contains names x → get leaves x ≡ Some id → count_of new id ≡ count_of old id
+  pub total : total new + sizes_named old leaves names ≡ total old
+  pub weighs : (p : ℕ) → Weighs L leaves old p → (q : ℕ) × Weighs L leaves' new q × (q + sizes_named old leaves names * level ≡ p)
+
+-- n triangles were added to the list of a bench.
+pub record Loads (n : ℕ) (old new : BenchState) : Type 0 where
+  pub fresh : new.simplified ≡ false
+  pub pushed : new.shop.pushed ≡ old.shop.pushed + n
+  pub count : length new.shop.mesh ≡ length old.shop.mesh + n
+  pub budget : new.shop.budget ≡ old.shop.budget
+  pub peak : new.shop.peak ≡ max old.shop.peak (length new.shop.mesh)

@@ -4,7 +4,9 @@
 //! where it is within the budget, and its triangles are given to the nearest members, whose patches they are from then on.
 #![tactic(auto)]
 
+mod ends;
 mod fault;
+mod fine;
 mod keyed;
 mod law;
 mod names;

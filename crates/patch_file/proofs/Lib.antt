@@ -6,3 +6,6 @@ pub mod ReadLaw
 pub mod RoundTrip
 mod WorkedStores
 pub mod ThreeNumbers
+pub mod Appending
+pub mod Openings
+pub mod WriterSteps

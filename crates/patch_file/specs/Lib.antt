@@ -3,3 +3,5 @@ pub mod Bytes
 pub mod Blocks
 pub mod Stores
 pub mod Allowed
+pub mod Appended
+pub mod Writing

@@ -3,7 +3,12 @@
 
 mod encode;
 mod law;
+mod moves;
+mod opening;
 mod shape;
+mod tail;
+mod writer;
 
 pub use law::store_law;
 pub use shape::{Params, StoreBad};
+pub use writer::{StoreWriter, WriteFault};
