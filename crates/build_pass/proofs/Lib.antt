@@ -20,3 +20,4 @@ pub mod TableLaw
 pub mod StoreLength
 pub mod StoreTrip
 mod WorkedStore
+pub mod PeakLaw
