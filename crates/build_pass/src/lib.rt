@@ -10,5 +10,6 @@ mod fine;
 mod keyed;
 mod names;
 mod share;
+mod write;
 
 pub use fault::BuildFault;
