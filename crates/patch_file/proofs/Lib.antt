@@ -9,3 +9,5 @@ pub mod ThreeNumbers
 pub mod Appending
 pub mod Openings
 pub mod WriterSteps
+pub mod WritingLaw
+pub mod Unfinished

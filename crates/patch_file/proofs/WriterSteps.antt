@@ -6,7 +6,7 @@ use Rattle.std.specs.declared.option.Option.TheVariants.{None, Some}
 use Rattle.std.proofs.lemmas.Bool.{cases_lt}
 use Rattle.std.proofs.lemmas.List.{append-nil, drop_all}
 use Rattle.patch_file.specs.Bytes.{Bytes}
-use Rattle.patch_file.specs.Appended.{Appended, content, content_of, end_of, Grows, IsClosed, IsNotOpen, Stands}
+use Rattle.patch_file.specs.Appended.{Appended, content, content_of, Grows, IsClosed, IsNotOpen, Stands}
 use Rattle.patch_file.proofs.Appending.{padded, length-padded}
 use Rattle.patch_file.proofs.Openings.{closed_front, not_open}
 use Rattle.patch_file.specs.Writing.{IsSound}
@@ -33,9 +33,9 @@ behind_header t n b held s none stands =
     let full : padded t.flushed held ++ t.pending ≡ padded t.flushed held = ap (λ (l : Bytes). padded t.flushed held ++ l) none ∙ append-nil (padded t.flushed held) in
     elim (cases_lt (length held) t.flushed) [
       | inl short ↦
-        let above : t.flushed ≤ 80 + 64 * n = at_most t n b held s stands short in
-        let few : t.flushed ≤ 80 = no_records t n b held s stands short above in
-        drop_all 80 held (omega (arith, short, few)) ∙ sym (ap (drop 80) full ∙ drop_all 80 (padded t.flushed held) (omega (arith, few, short, length-padded t.flushed held (omega (arith, short)))))
+          let above : t.flushed ≤ 80 + 64 * n = at_most t n b held s stands short in
+          let few : t.flushed ≤ 80 = no_records t n b held s stands short above in
+          drop_all 80 held (omega (arith, short, few)) ∙ sym (ap (drop 80) full ∙ drop_all 80 (padded t.flushed held) (omega (arith, few, short, length-padded t.flushed held (omega (arith, short)))))
       | inr long ↦ sym (ap (drop 80) (full ∙ ap (λ (k : ℕ). held ++ replicate k 0) (let e : t.flushed - length held ≡ 0 = omega (arith, long) in e) ∙ append-nil held))
     ]
   where

@@ -5,3 +5,4 @@ pub mod Stores
 pub mod Allowed
 pub mod Appended
 pub mod Writing
+pub mod Written

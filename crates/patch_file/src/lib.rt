@@ -9,6 +9,6 @@ mod shape;
 mod tail;
 mod writer;
 
-pub use law::store_law;
+pub use law::{store_law, writing_law};
 pub use shape::{Params, StoreBad};
 pub use writer::{StoreWriter, WriteFault};

@@ -44,8 +44,8 @@ impl Model for StoreWriter {
     ghost Value = { WriterState };
 
     ghost view = { λ w. record {
-        progress = record { record_count = w.record_count; left = w.left; block_start = w.block_start; base_start = w.base_start; end = end_of w.tail };
-        tail = w.tail;
+      progress = record { record_count = w.record_count; left = w.left; block_start = w.block_start; base_start = w.base_start; end = end_of w.tail };
+      tail = w.tail;
     } };
 
     ghost invariant = { λ w. IsSound w.record_count w.left w.block_start w.tail };
@@ -165,7 +165,8 @@ impl StoreWriter {
     {
         let end = self.tail.end();
         let bytes = record_bytes(rec, self.block_start, end - self.block_start);
-        self.tail.put(store, 80 + 64 * u64::from(self.left - 1), &bytes)?;
+        self.tail
+            .put(store, 80 + 64 * u64::from(self.left - 1), &bytes)?;
         self.left -= 1;
         self.block_start = end;
         Ok(())

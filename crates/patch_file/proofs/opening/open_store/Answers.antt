@@ -1,9 +1,7 @@
-use Rattle.std.proofs.Common.{◌≡◌, [], ◌∷◌, length, drop, take, ap, ◌∙◌, rules}
-use Rattle.std.specs.Option.{ForSome, option_map}
+use Rattle.std.proofs.Common.{◌≡◌, length, drop, take, ◌∙◌, rules}
 use Rattle.diamond_graph.proofs.AddingLaw.{on_err_always}
-use Rattle.std.proofs.Common.{length-drop, arith, Result, Ok, Err}
+use Rattle.std.proofs.Common.{length-drop, arith}
 use Rattle.std.proofs.lemmas.List.{take_all}
-use Rattle.patch_file.specs.Bytes.{Bytes}
 use Rattle.patch_file.proofs.Openings.{on_ok_always, left_head, left_shut, left_gate, left_whole, opened}
 use Rattle.patch_file.proofs.opening.open_store.Goals as goal
 
