@@ -20,3 +20,4 @@ pub mod Weighing
 pub mod TableLaw
 pub mod StoreLength
 pub mod StoreTrip
+mod WorkedStore

@@ -8,8 +8,10 @@ mod ends;
 mod fault;
 mod fine;
 mod keyed;
+mod law;
 mod names;
 mod share;
 mod write;
 
 pub use fault::BuildFault;
+pub use law::build_law;
