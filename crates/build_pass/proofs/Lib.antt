@@ -5,6 +5,7 @@ pub mod Sharing
 pub mod Parts
 pub mod Loading
 pub mod Ending
+pub mod Writing
 mod WorkedMeshes
 mod WorkedTables
 pub mod Reduced

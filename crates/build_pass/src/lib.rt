@@ -11,6 +11,7 @@ mod keyed;
 mod law;
 mod names;
 mod share;
+mod write;
 
 pub use fault::BuildFault;
 pub use law::build_law;
