@@ -22,3 +22,4 @@ pub mod StoreLength
 pub mod StoreTrip
 mod WorkedStore
 pub mod PeakLaw
+pub mod BuiltDown
