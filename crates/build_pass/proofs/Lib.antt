@@ -23,3 +23,4 @@ pub mod StoreTrip
 mod WorkedStore
 pub mod PeakLaw
 pub mod BuiltDown
+pub mod StoreSteps
