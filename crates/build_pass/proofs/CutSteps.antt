@@ -154,7 +154,7 @@ module _ (L : ℕ) (F : List Point) (i : ℕ) (d : Point) (h : IsNext L F i d) w
   joined : (x : Point) → has_diamond (take i F) x ≡ true → has_diamond (take (suc i) F) x ≡ true
   joined x e = front_more F i d x h.here ∙ or_left (has_diamond (take i F) x) (point_eq d x) e
 
-  joins : has_diamond (take (suc i) F) d ≡ true
+  pub joins : has_diamond (take (suc i) F) d ≡ true
   joins = front_more F i d d h.here ∙ or_right (has_diamond (take i F) d) (point_eq d d) (point_eq_refl d)
 
   -- a leaf of a front is a descendant

@@ -21,3 +21,6 @@ pub mod TableLaw
 pub mod StoreLength
 pub mod StoreTrip
 mod WorkedStore
+pub mod PeakLaw
+pub mod BuiltDown
+pub mod StoreSteps

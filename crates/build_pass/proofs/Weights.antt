@@ -92,7 +92,7 @@ module _ (L : ℕ) (F : List Point) (i : ℕ) (d : Point) (h : IsNext L F i d) w
   part_at T m = part_is_at L d T (next_splits L F i d h) m
 
   -- a part of the next diamond isn't active in the front before it
-  part_not_active : (T : Tetrahedron) → Member (active L (take i F)) T → Member (parts L d) T → ⊥
+  pub part_not_active : (T : Tetrahedron) → Member (active L (take i F)) T → Member (parts L d) T → ⊥
   part_not_active T m part =
       let p = part-parent L d T part in
       let a = member-filter (λ S. not (has_diamond (take i F) (diamond S))) (roots L ++ flat_map (parts L) (take i F)) T m in
