@@ -1,9 +1,9 @@
 -- Steps over the names of the members' children.
-use Rattle.std.proofs.Common.{◌≡◌, ◌≢◌, ◌⊎◌, ◌<◌, ◌≤◌, ◌+◌, ◌*◌, ◌^◌, ◌++◌, ◌∷◌, [], Some, None, Option, ℕ, zero, suc, List, length, get_or, refl, sym, ◌∙◌, ap, ap₂, subst, inl, inr, arith, append-nil}
-use Rattle.std.specs.Prelude.{slice_get, take, flat_map, sum_by, Contains, All, max}
+use Rattle.std.proofs.Common.{◌≡◌, ◌≢◌, ◌⊎◌, ◌<◌, ◌≤◌, ◌+◌, ◌*◌, ◌^◌, ◌++◌, ◌∷◌, [], Some, None, Option, Result, Ok, Err, ℕ, zero, suc, List, map, length, get_or, refl, sym, ◌∙◌, ap, ap₂, subst, inl, inr, arith, append-nil}
+use Rattle.std.specs.Prelude.{slice_get, take, flat_map, sum_by, Contains, IfOk}
 use Rattle.std.specs.Option.{ForSome, option_map}
 use Rattle.std.specs.FinMap.{get}
-use Rattle.std.proofs.lemmas.List.{take_all, take_more}
+use Rattle.std.proofs.lemmas.List.{map-append, take_all, take_more}
 use Rattle.std.proofs.lemmas.List.Elements.{Contains-append_cases, Contains-append_left, Contains-append_right}
 use Rattle.std.proofs.lemmas.List.Sums.{sum_by_more}
 use Rattle.std.proofs.lemmas.Grind.{flat_map-append}
@@ -125,3 +125,10 @@ told_is s s' h h' m m' x b b' same told told' =
 pub still_told : (h h' : Option (List ℕ)) (b : List ℕ) → Alike h h' → h ≡ Some b → (b' : List ℕ) × (h' ≡ Some b')
 still_told h None b alike told = let e = alike ∙ ap (option_map (λ (bytes : List ℕ). let none : Mesh = [] in none)) told in absurd cc
 still_told h (Some b') b alike told = (b', refl)
+
+pub if_ok_weaker : {X E : Type 0} {P Q : X → Type 0} (r : Result X E) → ((x : X) → P x → Q x) → IfOk r P → IfOk r Q
+if_ok_weaker (Ok x) f h = f x h
+if_ok_weaker (Err e) f h = h
+
+pub map_next : {X Y : Type 0} (f : X → Y) (xs : List X) (k : ℕ) (x : X) → slice_get xs k ≡ Some x → map f (take (k + 1) xs) ≡ map f (take k xs) ++ f x ∷ []
+map_next f xs k x is = ap (map f) (take_next xs k x is) ∙ map-append f (take k xs) (x ∷ [])

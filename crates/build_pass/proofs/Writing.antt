@@ -47,14 +47,14 @@ joined_append : (Ms Ns : List Mesh) → joined (Ms ++ Ns) ≡ joined Ms ++ joine
 joined_append Ms Ns = flat_map-append (λ (N : Mesh). N) Ms Ns
 
 pub keeps_store : (f r : ℕ) (o : Option (List Bool)) (told : Option Bytes) → KeepsStore f f r r o o told told
-keeps_store f r o told = record { later = omega arith; reads = refl; outcomes = refl; telling = refl }
+keeps_store f r o told = record { later = omega arith; same_reads = refl; same_outcomes = refl; same_telling = refl }
 
 -- only the count was written
 pub gathers_start : (l count : ℕ) (from : Cell) (w w' : WriterState) (h h' : Option Bytes) → content w'.tail h' ≡ followed_by (content w.tail h) (word_32 count)
     → w'.progress ≡ further w.progress 4 → ForSome h' (Stands w'.tail) → Gathers l count [] from from w w' h h'
 gathers_start l count from w w' h h' bytes progress stands = record {
   right = λ k d within. absurd (omega arith);
-  cell = refl;
+  hull = refl;
   content = bytes ∙ ap (followed_by (content w.tail h)) (sym (append-nil (word_32 count)));
   progress = progress;
   stands = stands;
@@ -67,7 +67,7 @@ gathers_next l count N t from cell next w w' w'' h h' h'' a held hull bytes prog
     let one : length (N ++ t ∷ []) ≡ length N + 1 = length-append N (t ∷ []) in
     record {
       right = All-push (IsHeld l) N t a.right held;
-      cell = hull ∙ ap (λ c. hull_of c (t ∷ [])) a.cell ∙ sym (hull_append from N (t ∷ []));
+      hull = hull ∙ ap (λ c. hull_of c (t ∷ [])) a.hull ∙ sym (hull_append from N (t ∷ []));
       content = bytes ∙ ap (λ o. followed_by o (tri_bytes t)) a.content ∙ followed_twice (content w.tail h) (word_32 count ++ flat_map tri_bytes N) (tri_bytes t)
           ∙ ap (followed_by (content w.tail h)) (append_assoc (word_32 count) (flat_map tri_bytes N) (tri_bytes t) ∙ ap (λ bs. word_32 count ++ bs) (sym (with_one N t)));
       progress = progress ∙ ap (λ p. further p 36) a.progress ∙ further_twice w.progress (4 + 36 * length N) 36
@@ -85,7 +85,7 @@ one_patch l count N from cell w w' h h' all a =
     let alone : N ++ [] ≡ N = append-nil N in
     record {
       right = subst (All (IsHeld l)) (sym alone) a.right;
-      cell = a.cell ∙ ap (hull_of from) (sym alone);
+      hull = a.hull ∙ ap (hull_of from) (sym alone);
       content = a.content ∙ ap (λ n. followed_by (content w.tail h) (word_32 n ++ flat_map tri_bytes N)) all ∙ ap (followed_by (content w.tail h)) (sym (append-nil (patch_bytes N)));
       progress = a.progress ∙ further_as w.progress (4 + 36 * length N) (4 * 1 + 36 * length (N ++ [])) (ap (λ (M : Mesh). 4 + 36 * length M) (sym alone));
       stands = a.stands;
@@ -94,7 +94,7 @@ one_patch l count N from cell w w' h h' all a =
 pub no_patches : (l : ℕ) (from : Cell) (w : WriterState) (h : Option Bytes) → ForSome h (Stands w.tail) → WritesPatches l [] from from w w h h
 no_patches l from w h stands = record {
   right = λ k d within. absurd (omega arith);
-  cell = refl;
+  hull = refl;
   content = followed_none (content w.tail h);
   progress = further_none w.progress;
   stands = stands;
@@ -108,7 +108,7 @@ more_patches l Ms Ns a b c w w' w'' h h' h'' p q =
     let size : length (joined (Ms ++ Ns)) ≡ length (joined Ms) + length (joined Ns) = ap length both ∙ length-append (joined Ms) (joined Ns) in
     record {
       right = subst (All (IsHeld l)) (sym both) (All-append (IsHeld l) (joined Ms) (joined Ns) p.right q.right);
-      cell = q.cell ∙ ap (λ x. hull_of x (joined Ns)) p.cell ∙ sym (hull_append a (joined Ms) (joined Ns)) ∙ ap (hull_of a) (sym both);
+      hull = q.hull ∙ ap (λ x. hull_of x (joined Ns)) p.hull ∙ sym (hull_append a (joined Ms) (joined Ns)) ∙ ap (hull_of a) (sym both);
       content = q.content ∙ ap (λ o. followed_by o (flat_map patch_bytes Ns)) p.content ∙ followed_twice (content w.tail h) (flat_map patch_bytes Ms) (flat_map patch_bytes Ns)
           ∙ ap (followed_by (content w.tail h)) (sym (flat_map-append patch_bytes Ms Ns));
       progress = q.progress ∙ ap (λ x. further x (4 * length Ns + 36 * length (joined Ns))) p.progress
@@ -117,3 +117,6 @@ more_patches l Ms Ns a b c w w' w'' h h' h'' p q =
           (omega (arith, count, size));
       stands = q.stands;
     }
+
+pub joined_one : (Ms : List Mesh) (N : Mesh) → length (joined (Ms ++ N ∷ [])) ≡ length (joined Ms) + length N
+joined_one Ms N = ap length (joined_append Ms (N ∷ [])) ∙ length-append (joined Ms) (N ++ []) ∙ ap (λ (M : Mesh). length (joined Ms) + length M) (append-nil N)

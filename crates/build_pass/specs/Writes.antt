@@ -17,9 +17,9 @@ use Rattle.build_pass.specs.declared.fault.BuildFault.TheVariants.{StoreFault}
 -- What every call leaves of a store: its failures, its reads and their outcomes, and whether it tells its bytes.
 pub record KeepsStore (faults faults' reads reads' : ℕ) (outcomes outcomes' : Option (List Bool)) (told told' : Option Bytes) : Type 0 where
   pub later : faults ≤ faults'
-  pub reads : reads' ≡ reads
-  pub outcomes : outcomes' ≡ outcomes
-  pub telling : is_some told' ≡ is_some told
+  pub same_reads : reads' ≡ reads
+  pub same_outcomes : outcomes' ≡ outcomes
+  pub same_telling : is_some told' ≡ is_some told
 
 -- What a refusal leaves of a store that was begun: it isn't finished, and it failed where it is blamed.
 pub record Stops (fault : BuildFault) (faults faults' : ℕ) (told : Option Bytes) : Type 0 where
@@ -37,7 +37,7 @@ hull_of from N = fold hull_point from (corners_of N)
 -- A count and the triangles N were written, and the box was widened to hold them.
 pub record Gathers (l : ℕ) (count : ℕ) (N : Mesh) (from cell : Cell) (w w' : WriterState) (told told' : Option Bytes) : Type 0 where
   pub right : All (IsHeld l) N
-  pub cell : cell ≡ hull_of from N
+  pub hull : cell ≡ hull_of from N
   pub content : content w'.tail told' ≡ followed_by (content w.tail told) (word_32 count ++ flat_map tri_bytes N)
   pub progress : w'.progress ≡ further w.progress (4 + 36 * length N)
   pub stands : ForSome told' (Stands w'.tail)
@@ -45,7 +45,7 @@ pub record Gathers (l : ℕ) (count : ℕ) (N : Mesh) (from cell : Cell) (w w' :
 -- These patches were written.
 pub record WritesPatches (l : ℕ) (Ns : List Mesh) (from cell : Cell) (w w' : WriterState) (told told' : Option Bytes) : Type 0 where
   pub right : All (IsHeld l) (joined Ns)
-  pub cell : cell ≡ hull_of from (joined Ns)
+  pub hull : cell ≡ hull_of from (joined Ns)
   pub content : content w'.tail told' ≡ followed_by (content w.tail told) (flat_map patch_bytes Ns)
   pub progress : w'.progress ≡ further w.progress (4 * length Ns + 36 * length (joined Ns))
   pub stands : ForSome told' (Stands w'.tail)

@@ -37,7 +37,7 @@ fn write_list<B: Blob, S: Blob>(
 ) -> Result<Cell, BuildFault>
     requires live { IsLive streams.old id }
     requires stands { ForSome (B.held work.old) (Stands streams.old) }
-    requires few { size_of streams.old id < 2 ^ 32 }
+    requires few { total streams.old < 2 ^ 32 }
     requires short { writer.old.progress.end + (4 + 36 * size_of streams.old id) < 2 ^ 62 }
     requires begun { ForSome (S.held store.old) (appended.Stands writer.old.tail) }
     ensures written { IfOk result (λ cell. (N : Mesh)
