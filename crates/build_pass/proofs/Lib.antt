@@ -24,3 +24,4 @@ mod WorkedStore
 pub mod PeakLaw
 pub mod BuiltDown
 pub mod StoreSteps
+pub mod BorderLaw

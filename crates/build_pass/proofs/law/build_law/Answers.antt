@@ -1,3 +1,4 @@
+use Rattle.build_pass.proofs.BorderLaw.{cut_border, finest_triangles}
 use Rattle.build_pass.proofs.LengthLaw.{level_short}
 use Rattle.build_pass.proofs.SaturatedLaw.{table_in_order, table_closed, table_saturated}
 use Rattle.build_pass.proofs.StoreLength.{store_short}
@@ -18,3 +19,9 @@ returns-clause-right c = λ M params. (table_in_order M params, table_closed M p
 
 pub returns-clause-levels : goal.returns-clause-levels
 returns-clause-levels c = λ l cap budget M n. level_short l cap budget M n
+
+pub returns-clause-border : goal.returns-clause-border
+returns-clause-border c = λ l cap budget M cut h. cut_border l cap budget M cut h
+
+pub returns-clause-finest : goal.returns-clause-finest
+returns-clause-finest c = λ l cap budget M. finest_triangles l cap budget M
