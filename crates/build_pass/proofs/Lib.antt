@@ -25,3 +25,4 @@ pub mod PeakLaw
 pub mod BuiltDown
 pub mod StoreSteps
 pub mod BorderLaw
+pub mod LookUp
