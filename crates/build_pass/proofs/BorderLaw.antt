@@ -1,4 +1,4 @@
--- Every conforming cut of a build has the signed edge sums of the input, and the finest one holds the input's triangles, each once.
+-- The patches of every conforming cut of a build have together the signed edge sums of the input, and those of the finest one its triangles.
 use Rattle.std.proofs.Common.{◌≡◌, ℕ, ◌+◌, ◌-◌, ◌*◌, true, cond, List, [], ◌∷◌, ◌++◌, length, refl, sym, ◌∙◌, ap, ap₂, inl, inr, arith, pos, ◌-ℤ◌, leb}
 use Rattle.std.specs.Prelude.{count_by, filter, flat_map, sum_by}
 use Rattle.std.proofs.lemmas.Bool.{cases_Bool}
@@ -110,10 +110,6 @@ module _ (L cap budget : ℕ) (M : Mesh) where
   -- of every weight of triangles the finest cut has the input's sum
   pub finest_sum : (f : Tri → ℕ) → sum_by f (cut_mesh L (built_patch L budget (split_set L cap M) M) (split_set L cap M)) ≡ sum_by f M
   finest_sum f = ap (sum_by f) (finest_is L budget (split_set L cap M) M) ∙ split_finest_sum L cap M f
-
-  -- the finest cut holds the input's triangles, each once
-  pub finest_triangles : SameTriangles (cut_mesh L (built_patch L budget (split_set L cap M) M) (split_set L cap M)) M
-  finest_triangles t = finest_sum (λ s. cond (tri_eq t s) 1 0)
 
   finest_border : SameBorder (cut_mesh L (built_patch L budget (split_set L cap M) M) (split_set L cap M)) M
   finest_border a b = ap₂ (λ x y. pos x -ℤ pos y) (edges a b) (edges b a) where

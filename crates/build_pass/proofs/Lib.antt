@@ -26,3 +26,4 @@ pub mod BuiltDown
 pub mod StoreSteps
 pub mod BorderLaw
 pub mod LookUp
+pub mod RepresentativeLaw

@@ -1,5 +1,5 @@
 -- The patches that a table of a build gives by look-up are those that are built.
-use Rattle.std.proofs.Common.{◌≡◌, Bool, true, false, not, List, [], ◌∷◌, ◌++◌, map, refl, sym, ◌∙◌, ap, ap₂, subst, inl, inr}
+use Rattle.std.proofs.Common.{◌≡◌, ℕ, Bool, true, false, not, List, [], ◌∷◌, ◌++◌, map, refl, sym, ◌∙◌, ap, ap₂, subst, inl, inr}
 use Rattle.std.specs.Prelude.{filter, find, flat_map, zip}
 use Rattle.std.specs.Option.{option_map_or}
 use Rattle.std.proofs.lemmas.Bool.{cases_Bool}
@@ -60,6 +60,9 @@ find-keyed f (x ∷ xs) T m =
     apart : (b : Bool) → b ≡ false → b ≡ true → ⊥
     apart b e f = cc
 
+pub record_centre : (L budget : ℕ) (F : List Point) (M : Mesh) (d : Point) → centre_of (built_record L budget F M d) ≡ d
+record_centre L budget F M d = ap (λ (r : Record). point_of r.centre) (record_entry L budget F M d) ∙ built_centre L budget F M d
+
 module _ (M : Mesh) (params : Params) where
   -- the patches of one record, by name
   record_patches : (d : Point) → let r = built_record params.l params.budget (split_set params.l params.cap M) M d in
@@ -69,13 +72,8 @@ module _ (M : Mesh) (params : Params) where
       let F = split_set L params.cap M in
       let f = built_patch L params.budget F M in
       let r = built_record L params.budget F M d in
-      let centre : centre_of r ≡ d = centre_built d in
+      let centre : centre_of r ≡ d = record_centre L params.budget F M d in
       ap₂ (λ x (c : Contents). zip (parts L x) c.patches) centre (record_contents L params.budget F M d) ∙ zip-map f (parts L d)
-    where
-      centre_built : (d : Point) → centre_of (built_record params.l params.budget (split_set params.l params.cap M) M d) ≡ d
-      centre_built d =
-          ap (λ (r : Record). point_of r.centre) (record_entry params.l params.budget (split_set params.l params.cap M) M d)
-          ∙ built_centre params.l params.budget (split_set params.l params.cap M) M d
 
   patch_list-table : patch_list (table M params)
       ≡ map (keyed (built_patch params.l params.budget (split_set params.l params.cap M) M)) (roots params.l ++ flat_map (parts params.l) (split_set params.l params.cap M))
@@ -105,7 +103,7 @@ module _ (M : Mesh) (params : Params) where
   centres_built [] = refl
   centres_built (x ∷ xs) =
       ap₂ (λ y ys. y ∷ ys)
-      (ap (λ (r : Record). point_of r.centre) (record_entry params.l params.budget (split_set params.l params.cap M) M x) ∙ built_centre params.l params.budget (split_set params.l params.cap M) M x)
+      (record_centre params.l params.budget (split_set params.l params.cap M) M x)
       (centres_built xs)
 
   -- the table's diamonds are the split ones
