@@ -70,6 +70,7 @@ drops_none L v m s h keyed = record {
   counts = λ x id none is. refl;
   total = omega arith;
   weighs = λ p w. (p, w, omega arith);
+  names = λ all. all;
 }
 
 -- the stream of a name that isn't among those that ended is as it was
@@ -111,7 +112,14 @@ drops_next L v names k x m0 m1 m2 s0 s1 s2 h0 h1 h2 is fresh level a b =
           let first = r.2 in
           let second = q.2 in
           (q.0, q.1, omega (arith, sums, here, first, second));
+      names = λ all y id at. elim (same_tet y x) [
+        | inl e ↦ absurd (no_id id (sym at ∙ ap (get m2) e ∙ b.gone))
+        | inr ne ↦ a.names all y id (sym (b.rest y ne) ∙ at)
+      ];
     }
   where
+    no_id : (id : StreamId) → Some id ≡ None → ⊥
+    no_id id e = cc
+
     before : (y : Tet) → Contains (take (k + 1) names) y → y ≢ x → Contains (take k names) y
     before y c ne = elim (among_next names k x y is c) [ inl h ↦ h | inr e ↦ absurd (ne e) ]

@@ -24,7 +24,7 @@ use Rattle.assign.specs.Names.{LeafTable}
 use Rattle.tri_stream.proofs.Changes.{same_size, all_taken, one_more}
 use Rattle.assign.proofs.NameTables.{same_tet}
 use Rattle.build_pass.specs.Building.{nearest_to}
-use Rattle.build_pass.specs.Keyed.{list_named, stream_at, told_named, Adds, Gains, IsKeyed, Shares, Weighs}
+use Rattle.build_pass.specs.Keyed.{level_named, list_named, stream_at, told_named, Adds, Gains, IsKeyed, Shares, Weighs}
 use Rattle.build_pass.proofs.Sums.{sum_same}
 use Rattle.build_pass.proofs.Tables.{alike_lists, named_same, told_some, Alike}
 
@@ -97,6 +97,7 @@ shares_none L c m s s' h h' alike keyed all = record {
     sum = sum_same w.bound (λ i. size_of s (stream_at i) * w.weight i) (λ i. size_of s' (stream_at i) * w.weight i)
         (λ i within. ap (λ (x : ℕ). x * w.weight i) (same_size s s' (stream_at i) (all.counts (stream_at i)))) ∙ w.sum ∙ omega arith;
   };
+  names = λ h. h;
 }
 
 pub gains_none : (L : ℕ) (c : Half) (m : LeafTable) (s s' : StreamsState) (h h' : Option (List ℕ)) → Alike h h' → LeavesAll s s' h h' → Gains L c [] m m s s' h h'
@@ -117,6 +118,7 @@ shares_both L c i j m0 m1 m2 s0 s1 s2 h0 h1 h2 a b = record {
   cursors = λ at x ne is f. b.cursors at x ne (a.rest x ne ∙ is) (a.cursors at x ne is f);
   total = let x = a.total in let y = b.total in omega arith;
   weighs = λ p w. subst (Weighs L m2 s2) (sums p) (b.weighs (p + i * v) (a.weighs p w));
+  names = λ h. b.names (a.names h);
 }
   where
     v : ℕ
@@ -205,3 +207,23 @@ alike_named s s' h h' m m' x same = alike_lists h h' (λ bytes. list_named s byt
 
 pub shares_alike : (L : ℕ) (c : Half) (n : ℕ) (m m' : LeafTable) (s s' : StreamsState) (h h' : Option (List ℕ)) (x : Tet) → x.centre ≢ c → Shares L c n m m' s s' h h' → Alike h h'
 shares_alike L c n m m' s s' h h' x other a = alike_named s s' h h' m m' x (a.lists x other)
+
+-- a triangle that was added to the stream of some member
+pub shares_one : (L : ℕ) (c : Half) (x : Tet) (t : Tri) (m m' : LeafTable) (s s' : StreamsState) (h h' : Option (List ℕ)) → x.centre ≡ c → IsName L x
+    → Adds L x t m m' s s' h h' → Shares L c 1 m m' s s' h h'
+shares_one L c x t m m' s s' h h' here name a =
+    let apart : (y : Tet) → y.centre ≢ c → y ≢ x = λ y other same. other (ap (λ (z : Tet). z.centre) same ∙ here) in
+    let level : level_named L x ≡ level_of L (point_of c) = ap (λ (d : Half). level_of L (point_of d)) here in
+    record {
+      keyed = a.keyed;
+      lists = λ y other. a.lists y (apart y other);
+      rest = λ y other. a.rest y (apart y other);
+      counts = λ y id other is. a.counts y id (apart y other) is;
+      cursors = λ at y other is f. a.cursors at y (apart y other) is f;
+      total = a.total;
+      weighs = λ p w. subst (Weighs L m' s') (omega (arith, level)) (a.weighs p w);
+      names = λ all y id is. elim (same_tet y x) [
+        | inl same ↦ subst (IsName L) (sym same) name
+        | inr ne ↦ all y id (sym (a.rest y ne) ∙ is)
+      ];
+    }
