@@ -25,3 +25,6 @@ mod WorkedStore
 pub mod PeakLaw
 pub mod BuiltDown
 pub mod StoreSteps
+pub mod BorderLaw
+pub mod LookUp
+pub mod RepresentativeLaw

@@ -21,6 +21,7 @@ use Rattle.tpz_base.proofs.Members.{member-filter}
 use Rattle.tpz_base.proofs.Elements.{Ascending, member-map, member-in_order, in_order-ascending, filter-ascending}
 use Rattle.patch_file.specs.Blocks.{in_cube, is_right_tri, is_right_move}
 use Rattle.patch_file.specs.Allowed.{all_right}
+use Rattle.patch_file.proofs.Distances.{any-member, fold_max-least}
 use Rattle.saturate.specs.Raised.{length_of, greatest_length}
 use Rattle.build_pass.specs.Building.{reduced}
 
@@ -68,11 +69,6 @@ corners_in_cube l t h =
     let b = and_parts (in_cube l t.a) _ a.1 in
     let c = and_parts (in_cube l t.b) (in_cube l t.c) b.1 in
     (b.0, c.0, c.1)
-
-any-member : {X : Type 0} (p : X → Bool) (xs : List X) → list_any p xs ≡ true → (x : X) × Member xs x × (p x ≡ true)
-any-member p [] h = cc
-any-member p (x ∷ xs) h =
-    elim (or_cases (p x) (list_any p xs) h) [ inl e ↦ (x, inl refl, e) | inr k ↦ let r = any-member p xs k in (r.0, inr r.1, r.2) ]
 
 pub vertex_in_cube : (l : ℕ) (M : Mesh) (v : Point) → AreRight l M → has_vertex M v ≡ true → in_cube l v ≡ true
 vertex_in_cube l M v right h =
@@ -203,10 +199,6 @@ max_dist-in l p q h k =
 
     three : (a b c : ℕ) → a ≤ 2 ^ l → b ≤ 2 ^ l → c ≤ 2 ^ l → max a (max b c) ≤ 2 ^ l
     three a b c i j o = omega (arith, i, j, o)
-
-fold_max-least : (a b : ℕ) (ns : List ℕ) → a ≤ b → ((n : ℕ) → Member ns n → n ≤ b) → fold max a ns ≤ b
-fold_max-least a b [] h k = h
-fold_max-least a b (n ∷ ns) h k = let here = k n (inl refl) in fold_max-least (max a n) b ns (omega (arith, h, here)) (λ m l. k m (inr l))
 
 -- no move is longer than the cube
 pub moves_near : (l budget : ℕ) (N : Mesh) → AreRight l N → greatest_length (moves_of N (reduced budget N)) ≤ 2 ^ l

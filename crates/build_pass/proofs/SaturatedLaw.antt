@@ -23,6 +23,7 @@ use Rattle.saturate.specs.Raised.{greatest_length, raised, hull_of_all}
 use Rattle.saturate.proofs.Raising.{saturated_above, all_box}
 use Rattle.assign.specs.Splits.{split_set}
 use Rattle.assign.proofs.SplitLaw.{split_above, split_closed, split_ascends}
+use Rattle.patch_file.proofs.Distances.{fold_max-least}
 use Rattle.patch_file.specs.declared.shape.Params.{Params}
 use Rattle.patch_file.specs.Tables.{TableRecord, entries_of}
 use Rattle.build_pass.specs.Building.{reduced, fine, built_moves, fine_box, entry_above, built_entry, built_record, table}
@@ -85,10 +86,6 @@ module _ (L budget : ℕ) (F : List Point) (M : Mesh) where
     added : (n own err : ℕ) → own ≤ 2 ^ 30 → err ≤ n * 2 ^ 30 → own + err ≤ suc n * 2 ^ 30
     added n own err h k = omega (arith, h, k)
 
-    fold_least : (a b : ℕ) (ns : List ℕ) → a ≤ b → ((n : ℕ) → Member ns n → n ≤ b) → fold max a ns ≤ b
-    fold_least a b [] h k = h
-    fold_least a b (n ∷ ns) h k = let here = k n (inl refl) in fold_least (max a n) b ns (omega (arith, h, here)) (λ m l. k m (inr l))
-
     -- n levels above the last the error is at most n moves as long as the widest cube
     entry_small : (n : ℕ) (d : Point) → IsSplittable L d
         → ((entry_above L budget F M n d).own ≤ 2 ^ 30) × ((entry_above L budget F M n d).err ≤ n * 2 ^ 30) × IsBox (2 ^ L) (entry_above L budget F M n d).cell
@@ -102,7 +99,7 @@ module _ (L budget : ℕ) (F : List Point) (M : Mesh) where
         let b = member-map (entry_above L budget F M n) ks r m in
         let k = splits b.0 (has-member F b.0 (member-filter (has_diamond F) (kids L d) b.0 b.1).1) in
         subst (λ (q : Record). (q.err ≤ n * 2 ^ 30) × IsBox (2 ^ L) q.cell) b.2 (let e = entry_small n b.0 k in (e.1, e.2)) in
-        let errs : greatest_err rs ≤ n * 2 ^ 30 = fold_least 0 (n * 2 ^ 30) (map (λ (r : Record). r.err) rs) (omega arith) (λ e m.
+        let errs : greatest_err rs ≤ n * 2 ^ 30 = fold_max-least 0 (n * 2 ^ 30) (map (λ (r : Record). r.err) rs) (omega arith) (λ e m.
         let a = member-map (λ (r : Record). r.err) rs e m in
         subst (λ k. k ≤ n * 2 ^ 30) a.2 (below a.0 a.1).0) in
         (

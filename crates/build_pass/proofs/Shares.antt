@@ -77,7 +77,7 @@ shares_once L d one f C =
     ∙ sum_by_same_all (λ t. sum_by (λ T. cond (option_map_or (tetrahedron_eq T) (nearest L d t) false) (f t) 0) (members L d)) f (λ t. one t (f t)) C
 
 -- the member that makes a diamond splittable
-splittable_member : (L : ℕ) (d : Point) (s : IsSplittable L d) → Member (members L d) s.member
+pub splittable_member : (L : ℕ) (d : Point) (s : IsSplittable L d) → Member (members L d) s.member
 splittable_member L d s = subst (λ x. Member (members L x) s.member) s.named (named_member L s.member s.within)
 
 -- the members' shares of a list hold each of its triangles once
