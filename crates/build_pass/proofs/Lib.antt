@@ -6,6 +6,7 @@ pub mod Parts
 pub mod Loading
 pub mod Ending
 pub mod Writing
+pub mod Coarsening
 mod WorkedMeshes
 mod WorkedTables
 pub mod Reduced

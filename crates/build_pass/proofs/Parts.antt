@@ -1,24 +1,25 @@
 -- Steps over the names of the members' children.
-use Rattle.std.proofs.Common.{◌≡◌, ◌≢◌, ◌⊎◌, ◌<◌, ◌≤◌, ◌+◌, ◌*◌, ◌^◌, ◌++◌, ◌∷◌, [], Some, None, Option, Result, Ok, Err, ℕ, zero, suc, List, map, length, get_or, refl, sym, ◌∙◌, ap, ap₂, subst, inl, inr, arith, append-nil}
+use Rattle.std.proofs.Common.{◌≡◌, ◌≢◌, ◌⊎◌, ◌<◌, ◌≤◌, ◌+◌, ◌*◌, ◌^◌, ◌++◌, ◌∷◌, [], Some, None, Option, Result, Ok, Err, ℕ, zero, suc, List, map, length, length-append, get_or, refl, sym, ◌∙◌, ap, ap₂, subst, inl, inr, arith, append-nil}
 use Rattle.std.specs.Prelude.{slice_get, take, flat_map, sum_by, Contains, IfOk}
-use Rattle.std.specs.Option.{ForSome, option_map}
+use Rattle.std.specs.Option.{option_map, unwrap_or}
 use Rattle.std.specs.FinMap.{get}
 use Rattle.std.proofs.lemmas.List.{map-append, take_all, take_more}
 use Rattle.std.proofs.lemmas.List.Elements.{Contains-append_cases, Contains-append_left, Contains-append_right}
-use Rattle.std.proofs.lemmas.List.Sums.{sum_by_more}
+use Rattle.std.proofs.lemmas.List.Sums.{sum_by-cons, sum_by_more}
 use Rattle.std.proofs.lemmas.Grind.{flat_map-append}
 use Rattle.std.proofs.lemmas.Option.{get_or_from_slice_get, slice_get_within}
 use Rattle.tpz_base.specs.declared.shape.Tri.{Tri}
 use Rattle.tpz_base.specs.Meshes.{Mesh}
 use Rattle.tetra_name.specs.declared.shape.Half.{Half}
 use Rattle.tetra_name.specs.declared.shape.Tet.{Tet}
+use Rattle.tri_stream.specs.Lists.{list_at}
 use Rattle.tri_stream.specs.declared.names.StreamId.{StreamId}
 use Rattle.tri_stream.specs.Streams.{StreamsState, count_of, list_of, size_of, told_list, total, LeavesAll}
 use Rattle.assign.specs.Names.{LeafTable}
 use Rattle.tpz_base.specs.Diamonds.{level_of}
 use Rattle.tetra_name.specs.Names.{point_of}
 use Rattle.tri_stream.proofs.Changes.{same_size}
-use Rattle.build_pass.specs.Keyed.{level_named, list_named, size_named, told_named, IsKeyed, Shares}
+use Rattle.build_pass.specs.Keyed.{level_named, list_named, lists_named, size_named, sizes_named, told_named, IsKeyed, Shares}
 use Rattle.build_pass.proofs.Tables.{size_none, size_some, Alike}
 
 -- the first k + 1 of a list
@@ -132,3 +133,27 @@ if_ok_weaker (Err e) f h = h
 
 pub map_next : {X Y : Type 0} (f : X → Y) (xs : List X) (k : ℕ) (x : X) → slice_get xs k ≡ Some x → map f (take (k + 1) xs) ≡ map f (take k xs) ++ f x ∷ []
 map_next f xs k x is = ap (map f) (take_next xs k x is) ∙ map-append f (take k xs) (x ∷ [])
+
+list_size : (s : StreamsState) (bytes : List ℕ) (id : StreamId) → length (list_of s bytes id) ≡ size_of s id
+unfolding list_of count_of
+list_size s bytes id = by_list (list_at s.lists id.place)
+  where
+    by_list : (o : Option Mesh) → length (unwrap_or o []) ≡ unwrap_or (option_map length o) 0
+    by_list None = refl
+    by_list (Some M) = refl
+
+named_list_size : (s : StreamsState) (bytes : List ℕ) (m : LeafTable) (x : Tet) → length (list_named s bytes m x) ≡ size_named s m x
+named_list_size s bytes m x = by_entry (get m x) refl
+  where
+    by_entry : (o : Option StreamId) → get m x ≡ o → length (list_named s bytes m x) ≡ size_named s m x
+    by_entry None is = ap length (named_empty s bytes m x is) ∙ sym (size_none s m x is)
+    by_entry (Some id) is = ap length (named_list s bytes m x id is) ∙ list_size s bytes id ∙ sym (size_some s m x id is)
+
+-- the lists of names are as long as their sizes say
+pub lists_size : (s : StreamsState) (bytes : List ℕ) (m : LeafTable) (names : List Tet) → length (lists_named s bytes m names) ≡ sizes_named s m names
+lists_size s bytes m [] = refl
+lists_size s bytes m (x ∷ names) =
+    let here = named_list_size s bytes m x in
+    let rest = lists_size s bytes m names in
+    let next = sum_by-cons (size_named s m) x names in
+    length-append (list_named s bytes m x) (lists_named s bytes m names) ∙ omega arith

@@ -227,3 +227,18 @@ shares_one L c x t m m' s s' h h' here name a =
         | inr ne ↦ all y id (sym (a.rest y ne) ∙ is)
       ];
     }
+
+-- a sharing behind a reading
+pub shares_after : (L : ℕ) (c : Half) (n : ℕ) (m m' : LeafTable) (s0 s1 s2 : StreamsState) (h0 h1 h2 : Option (List ℕ)) → IsKeyed m s0 → LeavesAll s0 s1 h0 h1
+    → Shares L c n m m' s1 s2 h1 h2 → Shares L c n m m' s0 s2 h0 h2
+shares_after L c n m m' s0 s1 s2 h0 h1 h2 keyed all b =
+    let none = shares_none L c m s0 s1 h0 h1 (all_alike s0 s1 h0 h1 all) keyed all in
+    shares_as L c (0 + n) n m m' s0 s2 h0 h2 (omega arith) (shares_both L c 0 n m m m' s0 s1 s2 h0 h1 h2 none b)
+
+pub gains_after : (L : ℕ) (c : Half) (M : Mesh) (m m' : LeafTable) (s0 s1 s2 : StreamsState) (h0 h1 h2 : Option (List ℕ)) → LeavesAll s0 s1 h0 h1
+    → Gains L c M m m' s1 s2 h1 h2 → Gains L c M m m' s0 s2 h0 h2
+gains_after L c M m m' s0 s1 s2 h0 h1 h2 all b =
+    gains_both L c [] M m m m' s0 s1 s2 h0 h1 h2 (gains_none L c m s0 s1 h0 h1 (all_alike s0 s1 h0 h1 all) all) b
+
+pub keyed_after : (m : LeafTable) (s s' : StreamsState) (h h' : Option (List ℕ)) → LeavesAll s s' h h' → IsKeyed m s → IsKeyed m s'
+keyed_after m s s' h h' all keyed = record { live = λ x y is. rw (all.counts y) (keyed.live x y is); one = keyed.one }

@@ -1,6 +1,6 @@
 -- Patches that are written one after another.
-use Rattle.std.proofs.Common.{◌≡◌, ◌<◌, ◌≤◌, ◌+◌, ◌*◌, ◌++◌, ◌∷◌, [], Some, None, Option, ℕ, Bool, List, length, length-append, refl, sym, ◌∙◌, ap, ap₂, subst, arith, append_assoc, append-nil, add_assoc}
-use Rattle.std.specs.Prelude.{All, flat_map, fold, is_some}
+use Rattle.std.proofs.Common.{◌≡◌, ◌<◌, ◌≤◌, ◌+◌, ◌*◌, ◌++◌, ◌∷◌, [], Some, None, Option, Result, Err, ℕ, Bool, List, length, length-append, refl, sym, ◌∙◌, ap, ap₂, subst, arith, append_assoc, append-nil, add_assoc}
+use Rattle.std.specs.Prelude.{All, flat_map, fold, is_some, IfErr}
 use Rattle.std.specs.Option.{ForSome, option_map}
 use Rattle.std.proofs.lemmas.Grind.{flat_map-append}
 use Rattle.std.proofs.lemmas.List.Elements.{All-append, All-push}
@@ -12,10 +12,11 @@ use Rattle.tpz_base.specs.Meshes.{Mesh, corners_of}
 use Rattle.tpz_io.specs.Causes.{Rose}
 use Rattle.tpz_io.specs.Told.{followed_by}
 use Rattle.tri_stream.specs.Lists.{IsHeld}
-use Rattle.patch_file.specs.Appended.{content, IsClosed, Stands}
+use Rattle.patch_file.specs.Appended.{content, Appended, IsClosed, Stands}
 use Rattle.patch_file.specs.Bytes.{Bytes, counted, patch_bytes, tri_bytes, word_32}
 use Rattle.patch_file.specs.Writing.{further, Progress, WriterState}
 use Rattle.build_pass.specs.declared.fault.BuildFault.{BuildFault}
+use Rattle.build_pass.specs.declared.fault.BuildFault.TheVariants.{Memory, StoreFault}
 use Rattle.build_pass.specs.Writes.{hull_of, joined, Gathers, KeepsStore, Stops, WritesPatches}
 
 pub followed_twice : (o : Option Bytes) (xs ys : Bytes) → followed_by (followed_by o xs) ys ≡ followed_by o (xs ++ ys)
@@ -120,3 +121,13 @@ more_patches l Ms Ns a b c w w' w'' h h' h'' p q =
 
 pub joined_one : (Ms : List Mesh) (N : Mesh) → length (joined (Ms ++ N ∷ [])) ≡ length (joined Ms) + length N
 joined_one Ms N = ap length (joined_append Ms (N ∷ [])) ∙ length-append (joined Ms) (N ++ []) ∙ ap (λ (M : Mesh). length (joined Ms) + length M) (append-nil N)
+
+-- want of memory leaves the store as it is
+pub stops_memory : (fault : BuildFault) (f f' : ℕ) (told : Option Bytes) (a : Appended) → fault ≡ Memory → ForSome told (Stands a) → Stops fault f f' told
+stops_memory fault f f' told a is stands = record {
+  closed = λ bytes e. (stands bytes e).closed;
+  cause = λ e. let no : Memory ≡ StoreFault = sym is ∙ e in absurd cc;
+}
+
+pub stops_at : {X : Type 0} (r : Result X BuildFault) (fault : BuildFault) (f f' : ℕ) (told : Option Bytes) → r ≡ Err fault → Stops fault f f' told → IfErr r (λ y. Stops y f f' told)
+stops_at r fault f f' told e h = rw e h

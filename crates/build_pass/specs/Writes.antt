@@ -1,16 +1,20 @@
 -- Patches that are written to a store, one after another.
-use Rattle.std.specs.Prelude.{◌≡◌, ◌≤◌, ◌+◌, ◌*◌, ◌++◌, ℕ, Bool, List, Option, All, length, flat_map, fold, is_some}
+use Rattle.std.specs.Prelude.{◌≡◌, ◌≤◌, ◌+◌, ◌*◌, ◌++◌, ℕ, Bool, List, [], Option, All, false, length, flat_map, fold, is_some}
 use Rattle.std.specs.Option.{ForSome}
 use Rattle.tpz_base.specs.declared.shape.Cell.{Cell}
+use Rattle.tpz_base.specs.declared.shape.Move.{Move}
 use Rattle.tpz_base.specs.declared.shape.Tri.{Tri}
 use Rattle.tpz_base.specs.Boxes.{hull_point}
 use Rattle.tpz_base.specs.Meshes.{Mesh, corners_of}
+use Rattle.tpz_base.specs.Collapses.{moves_of}
 use Rattle.tpz_io.specs.Causes.{Rose}
 use Rattle.tpz_io.specs.Told.{followed_by}
 use Rattle.tri_stream.specs.Lists.{IsHeld}
 use Rattle.patch_file.specs.Appended.{content, IsClosed, Stands}
-use Rattle.patch_file.specs.Bytes.{Bytes, patch_bytes, tri_bytes, word_32}
+use Rattle.patch_file.specs.Bytes.{Bytes, counted, move_bytes, patch_bytes, tri_bytes, word_32}
 use Rattle.patch_file.specs.Writing.{further, WriterState}
+use Rattle.edge_collapse.specs.Benches.{BenchState}
+use Rattle.build_pass.specs.Building.{reduced}
 use Rattle.build_pass.specs.declared.fault.BuildFault.{BuildFault}
 use Rattle.build_pass.specs.declared.fault.BuildFault.TheVariants.{StoreFault}
 
@@ -49,3 +53,19 @@ pub record WritesPatches (l : ℕ) (Ns : List Mesh) (from cell : Cell) (w w' : W
   pub content : content w'.tail told' ≡ followed_by (content w.tail told) (flat_map patch_bytes Ns)
   pub progress : w'.progress ≡ further w.progress (4 * length Ns + 36 * length (joined Ns))
   pub stands : ForSome told' (Stands w'.tail)
+
+-- These moves were written.
+pub record WritesMoves (ms : List Move) (w w' : WriterState) (told told' : Option Bytes) : Type 0 where
+  pub content : content w'.tail told' ≡ followed_by (content w.tail told) (counted move_bytes ms)
+  pub progress : w'.progress ≡ further w.progress (4 + 24 * length ms)
+  pub stands : ForSome told' (Stands w'.tail)
+
+-- The bench holds nothing and waits.
+pub record IsIdle (b : BenchState) : Type 0 where
+  pub fresh : b.simplified ≡ false
+  pub empty : b.shop.mesh ≡ []
+  pub unused : b.shop.pushed ≡ 0
+
+-- where the vertices of a fine list go
+abbrev pub moves_in : ℕ → Mesh → List Move
+moves_in budget N = moves_of N (reduced budget N)

@@ -5,6 +5,7 @@
 #![tactic(auto)]
 
 mod base;
+mod coarse;
 mod ends;
 mod fault;
 mod fine;
