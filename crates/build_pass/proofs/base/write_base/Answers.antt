@@ -1,12 +1,11 @@
 -- One root after another is written.
-use Rattle.std.proofs.Common.{◌≡◌, ◌≤◌, ◌+◌, ◌*◌, ◌++◌, ◌∷◌, ◌∙◌, [], ℕ, List, Some, None, length, length-append, map, refl, sym, ap, ap₂, subst, arith}
-use Rattle.std.specs.Prelude.{take, sum_by}
+use Rattle.std.proofs.Common.{◌≡◌, ◌+◌, ◌++◌, ◌∷◌, ◌∙◌, [], ℕ, List, length-append, map, refl, sym, ap, ap₂, subst, arith}
 use Rattle.std.proofs.lemmas.List.Sums.{sum_by-take-le}
 use Rattle.tpz_base.specs.declared.shape.Cell.{Cell}
 use Rattle.tpz_base.specs.Meshes.{Mesh}
 use Rattle.build_pass.specs.Keyed.{list_named, size_named, sizes_named}
 use Rattle.build_pass.specs.Roots.{root_names}
-use Rattle.build_pass.specs.Writes.{joined, WritesPatches}
+use Rattle.build_pass.specs.Writes.{WritesPatches}
 use Rattle.build_pass.proofs.Parts.{all_both, all_names, map_next, sizes_read, still_told, sum_next, told_is}
 use Rattle.build_pass.proofs.RootNames.{root_named, root_names-length}
 use Rattle.build_pass.proofs.Sharing.{all_alike, leaves_same}
