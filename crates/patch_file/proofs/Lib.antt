@@ -11,3 +11,5 @@ pub mod Openings
 pub mod WriterSteps
 pub mod WritingLaw
 pub mod Unfinished
+pub mod Distances
+pub mod RepresentedLaw

@@ -6,3 +6,5 @@ pub mod Allowed
 pub mod Appended
 pub mod Writing
 pub mod Written
+pub mod Patches
+pub mod Representatives
