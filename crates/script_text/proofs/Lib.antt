@@ -1,0 +1,5 @@
+pub mod NumberWords
+pub mod Spellings
+pub mod CommandLemmas
+pub mod LineLemmas
+pub mod ScriptLemmas
