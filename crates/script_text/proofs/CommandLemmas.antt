@@ -109,15 +109,15 @@ pub view_is : (numbers more rest last : Bytes) (x y z : ℤ) (tol : ℕ) → uns
     → IsSpelled (Look (to_z w64 (of_z w64 x)) (to_z w64 (of_z w64 y)) (to_z w64 (of_z w64 z)) tol) (codes "view " ++ numbers)
 view_is numbers more rest last x y z tol x_near y_near z_near small first second third fourth =
     rw (same_bits x x x_near refl, same_bits y y y_near refl, same_bits z z z_near refl) spelled where
-  whole : numbers ≡ signed_decimal x ++ 32 ∷ (signed_decimal y ++ 32 ∷ (signed_decimal z ++ 32 ∷ decimal tol))
-  whole = first ∙ ap (λ (t : Bytes). signed_decimal x ++ 32 ∷ t) (second ∙ ap (λ (t : Bytes). signed_decimal y ++ 32 ∷ t)
-      (third ∙ ap (λ (t : Bytes). signed_decimal z ++ 32 ∷ t) fourth))
+      whole : numbers ≡ signed_decimal x ++ 32 ∷ (signed_decimal y ++ 32 ∷ (signed_decimal z ++ 32 ∷ decimal tol))
+      whole = first ∙ ap (λ (t : Bytes). signed_decimal x ++ 32 ∷ t) (second ∙ ap (λ (t : Bytes). signed_decimal y ++ 32 ∷ t)
+          (third ∙ ap (λ (t : Bytes). signed_decimal z ++ 32 ∷ t) fourth))
 
-  spelled : IsSpelled (Look x y z tol) (codes "view " ++ numbers)
-  spelled = record {
-    text = ap (λ (t : Bytes). codes "view " ++ t) whole;
-    bounds = in_bounds_of x y z tol (record { x_near = x_near; y_near = y_near; z_near = z_near; tol_fits = small });
-  }
+      spelled : IsSpelled (Look x y z tol) (codes "view " ++ numbers)
+      spelled = record {
+        text = ap (λ (t : Bytes). codes "view " ++ t) whole;
+        bounds = in_bounds_of x y z tol (record { x_near = x_near; y_near = y_near; z_near = z_near; tol_fits = small });
+      }
 
 ascii_word : (w rest : Bytes) → IsAscii w → IsAscii rest → IsAscii (w ++ 32 ∷ rest)
 ascii_word w rest first second = IsAscii-append w (32 ∷ rest) first (IsAscii-cons 32 rest (lit< tt) second)

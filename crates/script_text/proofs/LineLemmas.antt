@@ -1,6 +1,6 @@
 -- How bytes are cut into lines.
 use Rattle.std.proofs.Common.{◌≡◌, ℕ, suc, ◌+◌, ◌-◌, ◌<◌, ◌≤◌, List, [], ◌∷◌, ◌++◌, length, take, refl, sym, ◌∙◌, ap, subst, arith, Bool, true, false, cond, Option, Some, None, append_assoc, length-append, length-take}
-use Rattle.std.specs.Prelude.{◌==◌}
+use Rattle.std.specs.Prelude.{◌==◌, ◌&&◌, nat_le, slice_index}
 use Rattle.std.specs.List.{All, slice_split, onto_first}
 use Rattle.std.specs.Str.Lines.{lines, lines_of_parts, strip_carriage_return}
 use Rattle.std.proofs.lemmas.List.{append-nil}
@@ -9,7 +9,7 @@ use Rattle.std.proofs.lemmas.List.Splits.{slice_split_at, slice_split_none, slic
 use Rattle.std.proofs.lemmas.Bool.Decides.{nat_tests}
 use Rattle.tpz_io.specs.Told.{ahead}
 use Rattle.tpz_base.specs.Texts.{Bytes}
-use Rattle.script_text.specs.Scripts.{BeginsLong, lines_told, with_text}
+use Rattle.script_text.specs.Scripts.{BeginsLong, BeginsOutside, lines_told, with_text}
 
 abbrev is_line_feed : ℕ → Bool
 is_line_feed b = b == 10
@@ -79,7 +79,7 @@ strip_length text false = omega arith
 
 begins_long : (part : Bytes) (parts : List Bytes) → 257 < length part → BeginsLong (lines_of_parts (part ∷ parts))
 begins_long part [] long = rw (last_some part (omega arith)) (omega arith)
-begins_long part (p ∷ ps) long = omega (arith, strip_length part _)
+begins_long part (p ∷ ps) long = omega (arith, strip_length part (slice_index part (length part - 1) == 13))
 
 line_long : (text rest : Bytes) → HasNoFeed text → 257 < length text → BeginsLong (lines (text ++ rest))
 line_long text rest h long =
@@ -121,3 +121,9 @@ told_long old mid (Some more) text byte taken next other full h texts told =
     let cut : lines (text ++ byte ∷ more) ≡ lines ((text ++ byte ∷ []) ++ more) = ap lines (sym (append_assoc text (byte ∷ []) more)) in
     subst BeginsLong (sym cut ∙ is)
     (line_long (text ++ byte ∷ []) more (no_feed_more text byte h other) (omega (arith, length-append text (byte ∷ []))))
+
+pub long_outside : (number : ℕ) (texts : List Bytes) → BeginsLong texts → BeginsOutside number texts
+long_outside number [] long = long
+long_outside number (text ∷ texts) long = test number (length text) long where
+  test : (n m : ℕ) → 256 < m → (nat_le n 1048576 && nat_le m 256) ≡ false
+  test n m h = grind (arith, nat_tests)

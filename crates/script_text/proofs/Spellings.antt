@@ -71,8 +71,12 @@ words_of_look x y z tol h =
 candidates_of_look : (x y z : ℤ) (tol : ℕ) → LookBounds x y z tol → candidates (spelling (Look x y z tol)) ≡ Look x y z tol ∷ Write ∷ []
 candidates_of_look x y z tol h =
     rw (words_of_look x y z tol h)
-    (rw (value_of_decimal x (near_fits x h.x_near), value_of_decimal y (near_fits y h.y_near), value_of_decimal z (near_fits z h.z_near),
-    value_of_decimal (pos tol) (omega (arith, h.tol_fits))) refl)
+    (rw (
+      value_of_decimal x (near_fits x h.x_near),
+      value_of_decimal y (near_fits y h.y_near),
+      value_of_decimal z (near_fits z h.z_near),
+      value_of_decimal (pos tol) (omega (arith, h.tol_fits)),
+    ) refl)
 
 spelled_test : (line : Line) → is_in_bounds line ≡ true → is_spelled (spelling line) line ≡ true
 spelled_test line bounds = rw ((bytes_eq-Decides (spelling line) (spelling line)).1 refl, bounds) refl

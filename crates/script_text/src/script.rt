@@ -1,5 +1,5 @@
 // The lines of a script, taken from a source.
-ghost use Rattle.std.specs.Prelude.{◌≡◌, ◌≤◌, ◌<◌, ◌+◌, ◌-◌, ◌++◌, ◌∷◌, [], ℕ, length, Ok, Err, IfOk, IfSome, OnSome, IsErrOf, IsTrue};
+ghost use Rattle.std.specs.Prelude.{◌≡◌, ◌≤◌, ◌<◌, ◌+◌, ◌-◌, ◌++◌, ◌∷◌, [], ℕ, length, Ok, Err, IfOk, IfSome, OnOk, OnSome, IsErrOf, IsTrue};
 ghost use Rattle.std.specs.Option.{ForSome, option_map};
 ghost use Rattle.std.specs.declared.option.Option.TheVariants.{None, Some};
 ghost use Rattle.std.specs.Str.Lines.{strip_carriage_return};
@@ -127,6 +127,7 @@ impl Script {
         ensures bad { (n : ℕ) → result ≡ Err (Bad n) → ForSome (script_left read_line self.old (C.left src.old))
             (λ s. s ≡ record { lines = passed_over (n - self.old.number - 1); bad = Some n }) }
         ensures number { IfOk result (λ found. OnSome found (self.old.number < self.new.number)) }
+        ensures stays { OnOk result (self.old.number ≤ self.new.number) }
         ensures place { (n : ℕ) → result ≡ Err (Bad n) → self.old.number < n }
         ensures bounds { IfOk result (λ found. IfSome found (λ line. IsTrue (is_in_bounds line))) }
         ensures later { C.faults src.old ≤ C.faults src.new }
@@ -151,7 +152,7 @@ impl Script {
             (λ s. s ≡ record { lines = passed_over (n - self.old.number - 1); bad = Some n }) }
         ensures number { IfOk result (λ found. OnSome found (self.old.number < self.new.number)) }
         ensures place { (n : ℕ) → result ≡ Err (Bad n) → self.old.number < n }
-        ensures stays { self.old.number ≤ self.new.number }
+        ensures stays { OnOk result (self.old.number ≤ self.new.number) }
         ensures later { C.faults src.old ≤ C.faults src.new }
         ensures input { IsErrOf result ScriptFault.Input → Rose (C.faults src.old) (C.faults src.new) }
     {

@@ -18,13 +18,13 @@ returns-else-eq c = λ z near is.
     let value = c.ok.ensures.value in
     let same : z ≡ c.in_ok-z.z = cc in
     elim c.else-eq.branch [
-      else-eq-via-then-eq+else-unsigned_abs-le-FARTHEST w ↦
-        let back = ap unsigned_abs (same_bits z c.in_ok-z.z near same) in
-        let size : w.unsigned_abs.result ≡ unsigned_abs z = w.unsigned_abs.ensures.value ∙ back in
-        omega (arith, w.if-unsigned_abs-le-FARTHEST.false)
-    | else-eq-via-else-eq w ↦
-        let equal = same_text c.args.word.now c.format.result.now z c.in_ok-z.z near same is c.format.ensures.text in
-        let tested = c.eq.ensures in
-        let failed = w.if-eq.false in
-        cc
+      | else-eq-via-then-eq+else-unsigned_abs-le-FARTHEST w ↦
+          let back = ap unsigned_abs (same_bits z c.in_ok-z.z near same) in
+          let size : w.unsigned_abs.result ≡ unsigned_abs z = w.unsigned_abs.ensures.value ∙ back in
+          omega (arith, w.if-unsigned_abs-le-FARTHEST.false)
+      | else-eq-via-else-eq w ↦
+          let equal = same_text c.args.word.now c.format.result.now z c.in_ok-z.z near same is c.format.ensures.text in
+          let tested = c.eq.ensures in
+          let failed = w.if-eq.false in
+          cc
     ]

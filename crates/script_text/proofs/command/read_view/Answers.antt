@@ -23,7 +23,7 @@ returns-in_err-z c = rw c.from_residual-in_err-z.ensures (refuses_view c.args.nu
 pub returns-in_err-tol : goal.returns-in_err-tol
 returns-in_err-tol c = rw c.from_residual-in_err-tol.ensures (refuses_view c.args.numbers.now (λ line v.
     let rest = behind_z c.args.numbers.now line v c.in_ok-x.x c.in_ok-y.y c.in_ok-z.z c.in_ok-x.numbers.now c.in_ok-y.numbers.now c.in_ok-z.numbers.now
-        c.in_ok-x.ensures.1 c.in_ok-y.ensures.1 c.in_ok-z.ensures.1 c.in_ok-x.ensures.0 c.in_ok-y.ensures.0 c.in_ok-z.ensures.0 in
+    c.in_ok-x.ensures.1 c.in_ok-y.ensures.1 c.in_ok-z.ensures.1 c.in_ok-x.ensures.0 c.in_ok-y.ensures.0 c.in_ok-z.ensures.0 in
     c.in_err-tol.ensures v.tol v.bounds.tol_fits rest.1))
 
 pub returns : goal.returns
