@@ -1,12 +1,11 @@
 -- What parsing and splitting say of the spelling of a view.
-use Rattle.std.proofs.Common.{◌≡◌, ◌≢◌, ◌↔◌, ℕ, zero, suc, ◌+◌, ◌<◌, ◌≤◌, ◌^◌, List, [], ◌∷◌, ◌++◌, length, get_or, drop, refl, sym, ◌∙◌, ap, subst, arith, true, lit<, Option, Some, None, Result, Ok, Err, MatchResult, Bor, w64, to_z, of_z}
-use Rattle.std.specs.Prelude.{codes, decimal, ℤ, pos, negsuc, unsigned_abs, FitsSigned}
+use Rattle.std.proofs.Common.{◌≡◌, ◌≢◌, ◌↔◌, ℕ, suc, ◌<◌, ◌≤◌, ◌^◌, [], ◌∷◌, ◌++◌, length, get_or, drop, refl, sym, ◌∙◌, ap, subst, arith, true, lit<, Some, None, Result, Ok, Err, MatchResult, Bor, w64, to_z, of_z}
+use Rattle.std.specs.Prelude.{codes, decimal, ℤ, unsigned_abs, FitsSigned}
 use Rattle.std.specs.Fmt.{signed_decimal}
 use Rattle.std.specs.Result.{result_ok}
 use Rattle.std.specs.Str.{IsAscii, IsUtf8, bytes_eq}
 use Rattle.std.specs.Str.Pattern.{StripsPrefix, FindsTextPrefix}
 use Rattle.std.specs.Str.Parse.{ParsesSigned, ParsesUnsigned}
-use Rattle.std.specs.Int.Signed.{mag}
 use Rattle.std.proofs.lemmas.Fmt.{parse-signed_decimal, parse-decimal, signed_decimal_injective, IsAscii-signed, IsAscii-decimal}
 use Rattle.std.proofs.lemmas.Int.{to_z-of_z}
 use Rattle.std.proofs.lemmas.Slice.Eq.{bytes_eq-Decides}
@@ -17,7 +16,7 @@ use Rattle.script_text.specs.declared.line.Line.{Line}
 use Rattle.script_text.specs.declared.line.Line.TheVariants.{Look, Write}
 use Rattle.script_text.specs.Commands.{IsSpelled, is_in_bounds, spelling}
 use Rattle.script_text.proofs.NumberWords.{near_fits, no_space}
-use Rattle.script_text.proofs.Spellings.{LookBounds, look_bounds, in_bounds_of, refuses, spelled_only}
+use Rattle.script_text.proofs.Spellings.{LookBounds, look_bounds, in_bounds_of, refuses}
 
 -- what was parsed of a coordinate's spelling is the coordinate
 pub parsed_coordinate : {E : Type 0} (word : Bytes) (r : Result ℤ E) → ParsesSigned w64 10 word r

@@ -1,3 +1,4 @@
+mod WorkedScripts
 pub mod NumberWords
 pub mod Spellings
 pub mod CommandLemmas

@@ -1,6 +1,6 @@
 -- The command that bytes spell is the one that their definition finds.
-use Rattle.std.proofs.Common.{◌≡◌, ◌≢◌, ◌↔◌, ℕ, zero, suc, ◌+◌, ◌<◌, ◌≤◌, ◌^◌, List, [], ◌∷◌, ◌++◌, length, get_or, refl, sym, ◌∙◌, ap, subst, arith, Bool, true, false, cond, ◌&&◌, Option, Some, None}
-use Rattle.std.specs.Prelude.{codes, decimal, find, ℤ, pos, negsuc, unsigned_abs, nat_le, nat_lt, ◌==◌}
+use Rattle.std.proofs.Common.{◌≡◌, ◌≢◌, ◌↔◌, ℕ, ◌<◌, ◌≤◌, ◌^◌, List, [], ◌∷◌, ◌++◌, length, get_or, refl, sym, ◌∙◌, ap, subst, arith, Bool, true, false, cond, ◌&&◌, Option, Some, None}
+use Rattle.std.specs.Prelude.{codes, decimal, find, ℤ, pos, unsigned_abs, nat_lt}
 use Rattle.std.specs.Fmt.{signed_decimal}
 use Rattle.std.specs.List.{All, slice_split}
 use Rattle.std.specs.Str.{bytes_eq}
@@ -11,9 +11,8 @@ use Rattle.std.proofs.lemmas.Bool.Decides.{nat_tests}
 use Rattle.tpz_base.specs.Texts.{Bytes}
 use Rattle.script_text.specs.declared.line.Line.{Line}
 use Rattle.script_text.specs.declared.line.Line.TheVariants.{Look, Write}
-use Rattle.script_text.specs.Commands.{IsSpelled, candidates, is_in_bounds, is_near, is_space, is_spelled, number_at, read_line, spelling}
+use Rattle.script_text.specs.Commands.{IsSpelled, candidates, is_in_bounds, is_near, is_space, is_spelled, read_line, spelling}
 use Rattle.script_text.proofs.NumberWords.{near_fits, no_space, value_of_decimal}
-use Rattle.std.specs.Int.Signed.{mag}
 
 pub both_hold : (a b : Bool) → (a && b) ≡ true → (a ≡ true) × (b ≡ true)
 both_hold a b h = (grind (arith, nat_tests), grind (arith, nat_tests))

@@ -1,4 +1,4 @@
-use Rattle.std.proofs.Common.{◌≡◌, Some, ◌∙◌, arith, ap}
+use Rattle.std.proofs.Common.{◌≡◌, ◌∙◌, arith, ap}
 use Rattle.std.specs.Prelude.{unsigned_abs}
 use Rattle.script_text.proofs.CommandLemmas.{parsed_coordinate, same_bits, same_text}
 use Rattle.script_text.proofs.command.coordinate.Goals as goal

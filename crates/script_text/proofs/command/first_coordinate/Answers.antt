@@ -1,4 +1,4 @@
-use Rattle.std.proofs.Common.{◌≡◌, Option, Some, None, arith, refl, sym, ◌∙◌, ap, lit<}
+use Rattle.std.proofs.Common.{Some, None, lit<}
 use Rattle.std.specs.Fmt.{signed_decimal}
 use Rattle.std.proofs.lemmas.Str.Pattern.{split_after}
 use Rattle.script_text.proofs.NumberWords.{near_fits, no_space}

@@ -1,9 +1,8 @@
-use Rattle.std.proofs.Common.{◌≡◌, Some, None, sym, ◌∙◌, ap, subst}
+use Rattle.std.proofs.Common.{sym, ◌∙◌, subst}
 use Rattle.std.specs.Prelude.{codes}
 use Rattle.std.proofs.lemmas.Slice.Eq.{bytes_eq-Decides}
 use Rattle.tpz_base.specs.Texts.{Bytes}
 use Rattle.script_text.specs.Commands.{IsSpelled}
-use Rattle.script_text.specs.declared.line.Line.{Line as Command}
 use Rattle.script_text.specs.declared.line.Line.TheVariants.{Write}
 use Rattle.script_text.proofs.Spellings.{refuses, same_answer, spelled_only}
 use Rattle.script_text.proofs.CommandLemmas.{not_utf8, same_utf8, spelled_utf8, spelled_write, spells_none, stripped}

@@ -1,10 +1,6 @@
-use Rattle.std.proofs.Common.{◌≡◌, ◌↔◌, Some, None, arith}
-use Rattle.std.proofs.lemmas.Int.{to_z-of_z}
-use Rattle.tpz_base.specs.Texts.{Bytes}
-use Rattle.script_text.specs.Commands.{IsSpelled}
-use Rattle.script_text.specs.declared.line.Line.{Line as Command}
+use Rattle.std.proofs.Common.{arith}
 use Rattle.script_text.proofs.Spellings.{spelled_only}
-use Rattle.script_text.proofs.CommandLemmas.{view_of, behind_x, behind_y, behind_z, refuses_view, view_is}
+use Rattle.script_text.proofs.CommandLemmas.{behind_x, behind_y, behind_z, refuses_view, view_is}
 use Rattle.script_text.proofs.command.read_view.Goals as goal
 
 pub returns-in_err-x : goal.returns-in_err-x

@@ -1,4 +1,4 @@
-use Rattle.std.proofs.Common.{◌≡◌, ◌∙◌, sym, arith, length, true}
+use Rattle.std.proofs.Common.{◌≡◌, ◌∙◌, sym, arith, length}
 use Rattle.std.proofs.lemmas.Bool.Decides.{nat_tests}
 use Rattle.script_text.proofs.LineLemmas.{told_end, told_ended, told_last, told_long}
 use Rattle.script_text.proofs.script.take_line.Goals as goal

@@ -1,9 +1,6 @@
-use Rattle.std.proofs.Common.{◌≡◌, ◌<◌, ◌-◌, ◌∙◌, ℕ, ap, sym, subst, arith, Ok, Err, Option, Some, None}
-use Rattle.tpz_base.specs.Texts.{Bytes}
-use Rattle.script_text.specs.declared.line.Line.{Line as Command}
-use Rattle.script_text.specs.declared.script.ScriptFault.TheVariants.{Bad}
+use Rattle.std.proofs.Common.{◌≡◌, ◌<◌, ◌-◌, ◌∙◌, ℕ, ap, sym, subst, Ok, Err, Some, None}
 use Rattle.script_text.specs.Commands.{read_line}
-use Rattle.script_text.specs.Scripts.{Place, ScriptLines, passed_over}
+use Rattle.script_text.specs.Scripts.{Place, passed_over}
 use Rattle.script_text.proofs.ScriptLemmas.{all_passed, command_found, command_refused}
 use Rattle.script_text.proofs.script.Script.next.Goals as goal
 use Rattle.script_text.proofs.script.Script.next.Goals.{in-Some-read_line, in-None}

@@ -1,6 +1,5 @@
-use Rattle.std.proofs.Common.{◌≡◌, ◌∙◌, ap, Ok}
+use Rattle.std.proofs.Common.{◌∙◌, ap, Ok}
 use Rattle.tpz_io.specs.Told.{ahead}
-use Rattle.tpz_base.specs.Texts.{Bytes}
 use Rattle.script_text.specs.Scripts.{Place, lines_told}
 use Rattle.script_text.proofs.LineLemmas.{long_outside}
 use Rattle.script_text.proofs.script.Script.next_line.Goals as goal

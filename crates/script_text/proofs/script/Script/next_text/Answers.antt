@@ -1,8 +1,7 @@
-use Rattle.std.proofs.Common.{◌≡◌, ◌≤◌, ◌∙◌, ℕ, ◌+◌, ◌-◌, ap, sym, arith, refl, Ok, Err, Some, None, true, false}
+use Rattle.std.proofs.Common.{◌≡◌, ◌∙◌, ℕ, ◌+◌, ◌-◌, ap, sym, arith, Ok, Err, Some, None}
 use Rattle.std.specs.Option.{option_map}
 use Rattle.tpz_base.specs.Texts.{Bytes}
-use Rattle.script_text.specs.declared.script.ScriptFault.TheVariants.{Bad}
-use Rattle.script_text.specs.Scripts.{Place, is_passed_over, is_within, passed_over, script_left, with_lines}
+use Rattle.script_text.specs.Scripts.{passed_over, script_left, with_lines}
 use Rattle.script_text.proofs.ScriptLemmas.{Taken, all_left, left_bad, left_end, line_found, none_passed, passed_more}
 use Rattle.script_text.proofs.script.Script.next_text.Goals as goal
 
