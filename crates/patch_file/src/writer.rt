@@ -37,9 +37,8 @@ pub struct StoreWriter {
 }
 
 impl Model for StoreWriter {
-    ghost use Rattle.patch_file.specs.Writing.{WriterState};
+    ghost use Rattle.patch_file.specs.Writing.{WriterState, IsSound};
     ghost use Rattle.patch_file.specs.Appended.{end_of};
-    ghost use Rattle.patch_file.specs.Writing.{IsSound};
 
     ghost Value = { WriterState };
 
