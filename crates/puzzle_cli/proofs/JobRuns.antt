@@ -17,18 +17,20 @@ use Rattle.puzzle_cli.proofs.Exports.{none_yet, nothing}
 
 -- ---- one job
 
-pub same_finest : (P : Option ℕ → Option ℕ → Type 0) (o : Option Job) (d k d' k' : Option ℕ) → o ≡ Some (Finest d k) → o ≡ Some (Finest d' k') → P d k → P d' k'
-same_finest P o d k d' k' a b h =
+pub same_finest : {left held : Option Bytes} {input_failed work_failed out_failed : Type 0} {p0 p1 : Option (List Bytes)} {n0 n1 : Option Bytes} {answer : Status} (o : Option Job) (d k d' k' : Option ℕ)
+    → o ≡ Some (Finest d k) → o ≡ Some (Finest d' k') → FinestRun d k left held input_failed work_failed out_failed p0 p1 n0 n1 answer → FinestRun d' k' left held input_failed work_failed out_failed p0 p1 n0 n1 answer
+same_finest {left} {held} {input_failed} {work_failed} {out_failed} {p0} {p1} {n0} {n1} {answer} o d k d' k' a b h =
     let both : ◌≡◌ {A = Option Job} (Some (Finest d k)) (Some (Finest d' k')) = sym a ∙ b in
     let p : d ≡ d' = cc in
     let q : k ≡ k' = cc in
-    subst (λ x. P x k') p (subst (λ y. P d y) q h)
+    subst (λ x. FinestRun x k' left held input_failed work_failed out_failed p0 p1 n0 n1 answer) p (subst (λ y. FinestRun d y left held input_failed work_failed out_failed p0 p1 n0 n1 answer) q h)
 
-pub same_gen : (P : ℕ → Type 0) (o : Option Job) (n n' : ℕ) → o ≡ Some (Gen n) → o ≡ Some (Gen n') → P n → P n'
-same_gen P o n n' a b h =
+pub same_gen : {out_failed : Type 0} {p0 p1 : Option (List Bytes)} {n0 n1 : Option Bytes} {answer : Status} (o : Option Job) (n n' : ℕ)
+    → o ≡ Some (Gen n) → o ≡ Some (Gen n') → GenRun n out_failed p0 p1 n0 n1 answer → GenRun n' out_failed p0 p1 n0 n1 answer
+same_gen {out_failed} {p0} {p1} {n0} {n1} {answer} o n n' a b h =
     let both : ◌≡◌ {A = Option Job} (Some (Gen n)) (Some (Gen n')) = sym a ∙ b in
     let p : n ≡ n' = cc in
-    subst P p h
+    subst (λ x. GenRun x out_failed p0 p1 n0 n1 answer) p h
 
 pub gen_or_finest : (o : Option Job) (n : ℕ) (d k : Option ℕ) → o ≡ Some (Gen n) → o ≡ Some (Finest d k) → ⊥
 gen_or_finest o n d k a b = let both : ◌≡◌ {A = Option Job} (Some (Gen n)) (Some (Finest d k)) = sym a ∙ b in cc
@@ -38,7 +40,7 @@ some_or_none o j a b = let both : ◌≡◌ {A = Option Job} (Some j) None = sym
 
 -- a device that is touched isn't one that isn't
 pub touched : (f : Devices → Bool) (o p : Option Job) → o ≡ p → f (touched_by p) ≡ true → f (touched_by o) ≡ false → ⊥
-touched f o p same yes no = true≢false (sym yes ∙ ap (λ j. f (touched_by j)) (sym same) ∙ no)
+touched f o p same is isnt = true≢false (sym is ∙ ap (λ j. f (touched_by j)) (sym same) ∙ isnt)
 
 -- ---- where memory ran out before a device was touched
 
@@ -75,4 +77,4 @@ pub never : (answer other : Status) → IsGenAnswer answer → (status.Ok ≡ ot
 never answer other is a b c e = elim is [ inl k ↦ a (sym k ∙ e) | inr k ↦ elim k [ inl l ↦ b (sym l ∙ e) | inr l ↦ c (sym l ∙ e) ] ]
 
 pub gen_complete : (answer : Status) (out_failed : Type 0) → IsGenAnswer answer → (answer ≡ status.OutFault → out_failed) → (out_failed → ⊥) → (answer ≡ status.Ok) ⊎ (answer ≡ status.Memory)
-gen_complete answer out_failed is fault no = elim is [ inl e ↦ inl e | inr k ↦ elim k [ inl e ↦ absurd (no (fault e)) | inr e ↦ inr e ] ]
+gen_complete answer out_failed is fault none = elim is [ inl e ↦ inl e | inr k ↦ elim k [ inl e ↦ absurd (none (fault e)) | inr e ↦ inr e ] ]

@@ -17,7 +17,9 @@ pub enum Job {
         cap: Option<u32>,
     },
     /// `gen`: how many squares are in a row on each side of the mesh.
-    Gen { size: u32 },
+    Gen {
+        size: u32,
+    },
 }
 
 /// Why no job was read.

@@ -24,6 +24,5 @@ pub returns-clause-usage : goal.returns-clause-usage
 returns-clause-usage c usage =
     asked_other _ _ (
       λ e. true≢false (sym (c.is_named.ensures.1 e) ∙ c.if-is_named.false),
-      λ e. true≢false (sym (c.is_named-2.ensures.1 e) ∙ c.if-is_named-2.false),
-      tt,
+      (λ e. true≢false (sym (c.is_named-2.ensures.1 e) ∙ c.if-is_named-2.false), tt),
     )
