@@ -7,7 +7,7 @@ pub mod RoundTrip
 mod WorkedStores
 pub mod ThreeNumbers
 pub mod Appending
-pub mod Openings
+pub mod GateLaw
 pub mod WriterSteps
 pub mod WritingLaw
 pub mod Unfinished

@@ -2,9 +2,9 @@
 #![tactic(auto)]
 
 mod encode;
+mod gate;
 mod law;
 mod moves;
-mod opening;
 mod shape;
 mod tail;
 mod writer;
