@@ -19,7 +19,7 @@ leaf L F t = find (λ T. not (has_diamond F (diamond T))) (path L t)
 unfoldable pub leaf_patch : ℕ → List Point → Mesh → Tetrahedron → Mesh
 leaf_patch L F M T = filter (λ t. option_map_or (tetrahedron_eq T) (leaf L F t) false) M
 
--- 24 times the distance, in half-units and in the max-norm, of the centre of T from the barycentre of a triangle whose corners' sum is p:
+-- twelve times the distance, in half-units and in the max-norm, of the centre of T from the barycentre of a triangle whose corners' sum is p:
 -- half-units have twice the coordinates, the centre is a quarter of the sum of four corners, and the barycentre a third of the sum of three
 unfoldable pub centre_dist : Point → Tetrahedron → ℕ
 centre_dist p T =

@@ -10,8 +10,8 @@ use crate::sum::{Sum, corner_sum};
 use tetra_name::{Half, Tet, corners, member_count};
 use tpz_base::Tri;
 
-/// How far, on one axis, the sum of a triangle's corners in whole units is from that of a tetrahedron's corners in half-units: 24 times the
-/// distance of their centres.
+/// How far, on one axis, the sum of a triangle's corners in whole units is from that of a tetrahedron's corners in half-units: twelve
+/// times the distance of their centres in half-units.
 #[inline]
 fn gap(sum: u64, a: u32, b: u32, c: u32, d: u32) -> u64
     requires { sum < 3 * 2 ^ 32 }
@@ -21,7 +21,7 @@ fn gap(sum: u64, a: u32, b: u32, c: u32, d: u32) -> u64
     (8 * sum).abs_diff(3 * corners)
 }
 
-/// 24 times the distance of the centre of a tetrahedron, in half-units and in the max-norm.
+/// Twelve times the distance of the centre of a tetrahedron, in half-units and in the max-norm.
 fn distance(name: Tet, sum: Sum, l: u8) -> u64
     requires bound { IsBound l }
     requires name { IsName l name }

@@ -236,7 +236,7 @@ flat_take f xs i d low =
 pub kid_point : (ks : List Half) (i : ℕ) (k : Half) → slice_get ks i ≡ Some k → i < length ks → get_or (map point_of ks) i (point_of k) ≡ point_of k
 kid_point ks i k at low = get_or-map point_of ks i k (point_of k) low ∙ ap point_of (get_or_from_slice_get ks i k k at)
 
-kids_more : (rs : List Record) (ks : List Half) (i : ℕ) (k : Half) (kid : List Record) → slice_get ks i ≡ Some k → i < length ks → kid ≡ records_at rs (point_of k)
+pub kids_more : (rs : List Record) (ks : List Half) (i : ℕ) (k : Half) (kid : List Record) → slice_get ks i ≡ Some k → i < length ks → kid ≡ records_at rs (point_of k)
     → flat_map (records_at rs) (take i (map point_of ks)) ++ kid ≡ flat_map (records_at rs) (take (i + 1) (map point_of ks))
 kids_more rs ks i k kid at low is =
     let size = length-map ks point_of in
@@ -339,7 +339,7 @@ all_apart : (x : Point) (xs : List Point) → ((y : Point) → Member xs y → x
 all_apart x [] apart = tt
 all_apart x (y ∷ ys) apart = (ne-point_eq x y (apart y (inl refl)), all_apart x ys (λ z m. apart z (inr m)))
 
-all_distinct : (xs : List Point) → NoTwice xs → IsDistinct point_eq xs
+pub all_distinct : (xs : List Point) → NoTwice xs → IsDistinct point_eq xs
 unfolding IsDistinct
 all_distinct [] once = tt
 all_distinct (x ∷ xs) once = (all_apart x xs once.0, all_distinct xs once.1)
@@ -347,13 +347,13 @@ all_distinct (x ∷ xs) once = (all_apart x xs once.0, all_distinct xs once.1)
 pub order_distinct : (L : ℕ) (rs : List Record) → AreInOrder L rs → IsDistinct point_eq (map centre_of rs)
 order_distinct L rs order = all_distinct (map centre_of rs) (no_twice_centres L rs order)
 
-greatest_within : (ks : List Record) (a m : ℕ) → a ≤ m → ((k : Record) → Member ks k → k.err ≤ m) → fold max a (map (λ (r : Record). r.err) ks) ≤ m
+pub greatest_within : (ks : List Record) (a m : ℕ) → a ≤ m → ((k : Record) → Member ks k → k.err ≤ m) → fold max a (map (λ (r : Record). r.err) ks) ≤ m
 greatest_within [] a m low each = low
 greatest_within (k ∷ ks) a m low each =
     let here = each k (inl refl) in
     greatest_within ks (max a k.err) m (omega (arith, low, here)) (λ q n. each q (inr n))
 
-kid_record : (L : ℕ) (rs : List Record) (d : Point) (k : Record) → Member (kid_records L rs d) k → Member rs k × Member (kids L d) (centre_of k)
+pub kid_record : (L : ℕ) (rs : List Record) (d : Point) (k : Record) → Member (kid_records L rs d) k → Member rs k × Member (kids L d) (centre_of k)
 kid_record L rs d k m =
     let f = member-flat_map (records_at rs) (kids L d) k m in
     let g = member-filter (λ (r : Record). point_eq (centre_of r) f.0) rs k f.2 in

@@ -9,7 +9,6 @@ use Rattle.tpz_base.specs.declared.shape.Tri.{Tri}
 use Rattle.tpz_base.specs.Meshes.{Mesh}
 use Rattle.tpz_base.specs.Roots.{corner_sum, is_in_root, root_slot}
 use Rattle.tri_stream.specs.declared.names.StreamId.{StreamId}
-use Rattle.tri_stream.specs.Lists.{list_at, size, size_of_all}
 use Rattle.tri_stream.specs.Streams.{StreamsState, count_of, list_of, told_list, total, IsLive, LeavesOthers, Stands}
 use Rattle.split_pass.specs.Moves.{AreApart, AreFresh, AreLive, IsNoneOf, LeavesAllOthers, MakesAll}
 use Rattle.split_pass.proofs.Dividing.{nothing_more}
@@ -95,36 +94,6 @@ among (y ∷ ids) x =
 -- a stream that is live is none of those that aren't
 pub live_is_other : (ids : List StreamId) (s : StreamsState) (x : StreamId) → AreFresh ids s → IsLive s x → IsNoneOf ids x
 live_is_other ids s x fresh live k is = live_differs s x x live (fresh k x is) refl
-
--- where each stream has as many triangles as before, all have
-sums_same : (xs ys : List (Option Mesh)) → ((i : ℕ) → size (list_at xs i) ≡ size (list_at ys i)) → size_of_all xs ≡ size_of_all ys
-sums_same [] [] same = refl
-sums_same [] (o ∷ ys) same =
-    let here : size None ≡ size o = same 0 in
-    let none : size None ≡ 0 = refl in
-    let rest : sum_by size [] ≡ sum_by size ys = sums_same [] ys (λ i. same (suc i)) in
-    let nil : sum_by size [] ≡ 0 = refl in
-    sym (sum_by-cons size o ys ∙ omega (arith, here, none, rest, nil))
-sums_same (o ∷ xs) [] same =
-    let here : size o ≡ size None = same 0 in
-    let none : size None ≡ 0 = refl in
-    let rest : sum_by size xs ≡ sum_by size [] = sums_same xs [] (λ i. same (suc i)) in
-    let nil : sum_by size [] ≡ 0 = refl in
-    sum_by-cons size o xs ∙ omega (arith, here, none, rest, nil)
-sums_same (o ∷ xs) (q ∷ ys) same =
-    let here : size o ≡ size q = same 0 in
-    let rest : sum_by size xs ≡ sum_by size ys = sums_same xs ys (λ i. same (suc i)) in
-    sum_by-cons size o xs ∙ omega (arith, here, rest) ∙ sym (sum_by-cons size q ys)
-
-counted : (o : Option Mesh) → size o ≡ unwrap_or (option_map length o) 0
-counted None = refl
-counted (Some M) = refl
-
-pub totals_same : (old new : StreamsState) → ((x : StreamId) → count_of new x ≡ count_of old x) → total new ≡ total old
-unfolding total count_of
-totals_same old new same =
-    sums_same new.lists old.lists
-    (λ i. counted (list_at new.lists i) ∙ ap (λ o. unwrap_or o 0) (same (record { place = i })) ∙ sym (counted (list_at old.lists i)))
 
 -- no stream is made so far
 pub made_none : (s : StreamsState) → MakesAll [] s s
