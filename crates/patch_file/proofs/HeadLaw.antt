@@ -76,10 +76,28 @@ fit head len h =
     let place = and_parts (nat_le (80 + 64 * head.records) head.base) (nat_le (head.base + 24) head.total && (nat_lt 0 head.records || head.base == 80)) b in
     let room = and_parts (nat_le (head.base + 24) head.total) (nat_lt 0 head.records || head.base == 80) place.1 in
     let end = and_parts (head.total == len) (nat_le head.total (2 ^ 48)) w in
+    let digits : nat_le head.params.digits 9 ≡ true = allowed_at (fields_of head len) 1 h (omega arith) in
+    let low : list_all (λ z. nat_le (unsigned_abs z) 2147483647) head.params.low ≡ true = allowed_at (fields_of head len) 3 h (omega arith) in
+    let tris : nat_le (head.params.tris + head.params.dropped) 2147483648 ≡ true = allowed_at (fields_of head len) 5 h (omega arith) in
+    let cap : nat_lt 0 head.params.cap && nat_le head.params.cap 16777216 ≡ true = allowed_at (fields_of head len) 6 h (omega arith) in
+    let budget : nat_lt 0 head.params.budget && nat_le head.params.budget 4194304 ≡ true = allowed_at (fields_of head len) 7 h (omega arith) in
+    let caps = and_parts (nat_lt 0 head.params.cap) (nat_le head.params.cap 16777216) cap in
+    let budgets = and_parts (nat_lt 0 head.params.budget) (nat_le head.params.budget 4194304) budget in
+    let bound : IsBound head.params.l = record { least = ltb-true 0 head.params.l level.0; most = leb-true head.params.l 30 level.1 } in
     let e = eqb-true head.total len end.0 in
     let f = leb-true head.total (2 ^ 48) end.1 in
     record {
-      bound = record { least = ltb-true 0 head.params.l level.0; most = leb-true head.params.l 30 level.1 };
+      params = record {
+        levels = bound;
+        digits = leb-true head.params.digits 9 digits;
+        low = low;
+        tris = leb-true (head.params.tris + head.params.dropped) 2147483648 tris;
+        some_cap = ltb-true 0 head.params.cap caps.0;
+        cap = leb-true head.params.cap 16777216 caps.1;
+        some_budget = ltb-true 0 head.params.budget budgets.0;
+        budget = leb-true head.params.budget 4194304 budgets.1;
+      };
+      bound = bound;
       base = leb-true (80 + 64 * head.records) head.base place.0;
       room = leb-true (head.base + 24) head.total room.0;
       total = e;
