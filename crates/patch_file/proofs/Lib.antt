@@ -6,8 +6,18 @@ pub mod ReadLaw
 pub mod RoundTrip
 mod WorkedStores
 pub mod ThreeNumbers
+pub mod Numbers
+pub mod Items
+pub mod AskingLaw
+pub mod BlockForm
+pub mod HeadLaw
+pub mod EntryLaw
+pub mod OpeningLaw
+pub mod Members
+pub mod BlockPlace
+pub mod Opened
 pub mod Appending
-pub mod Openings
+pub mod GateLaw
 pub mod WriterSteps
 pub mod WritingLaw
 pub mod Unfinished

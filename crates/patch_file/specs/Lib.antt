@@ -3,6 +3,8 @@ pub mod Bytes
 pub mod Blocks
 pub mod Stores
 pub mod Allowed
+pub mod Asking
+pub mod Reading
 pub mod Appended
 pub mod Writing
 pub mod Written
