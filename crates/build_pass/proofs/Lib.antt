@@ -7,6 +7,7 @@ pub mod Loading
 pub mod Ending
 pub mod Writing
 pub mod Coarsening
+pub mod Moving
 mod WorkedMeshes
 mod WorkedTables
 pub mod Reduced

@@ -12,6 +12,7 @@ mod keyed;
 mod law;
 mod names;
 mod share;
+mod step;
 mod write;
 
 pub use fault::BuildFault;
