@@ -1,5 +1,5 @@
 -- The streams of a build: at the start they are the leaves' patches, and as a record is done those of the cut that is left have their patches.
-use Rattle.std.proofs.Common.{◌≡◌, ◌≢◌, ◌⊎◌, ℕ, zero, suc, ◌<◌, ◌≤◌, Bool, true, false, not, List, [], ◌∷◌, ◌++◌, map, take, length, refl, sym, ◌∙◌, ap, subst, inl, inr, arith, true≢false, Option, Some, None}
+use Rattle.std.proofs.Common.{◌≡◌, ◌≢◌, ◌⊎◌, ℕ, suc, ◌≤◌, false, not, List, [], ◌∷◌, ◌++◌, map, take, length, refl, sym, ◌∙◌, ap, subst, inl, inr, arith, true≢false, Option, Some, None}
 use Rattle.std.specs.Prelude.{flat_map, Contains}
 use Rattle.std.specs.Option.{option_map, option_map_or}
 use Rattle.std.specs.List.{slice_get}
@@ -24,7 +24,7 @@ use Rattle.tetra_name.specs.Names.{half_of, point_of, tetrahedron_of, IsName}
 use Rattle.tetra_name.proofs.NameFacts.{contains-member, member-contains, some_of}
 use Rattle.tetra_name.proofs.OneName.{get_member}
 use Rattle.tri_stream.specs.declared.names.StreamId.{StreamId}
-use Rattle.tri_stream.specs.Streams.{StreamsState, list_of, told_list}
+use Rattle.tri_stream.specs.Streams.{StreamsState, list_of}
 use Rattle.assign.specs.Names.{LeafTable}
 use Rattle.assign.specs.Leaf.{leaf_patch}
 use Rattle.assign.specs.Standing.{named_patch, IsLeafOf, HoldsPatches, NamesStreams}

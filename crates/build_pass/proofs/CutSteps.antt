@@ -1,21 +1,20 @@
 -- How the leaves of a front of a closed set change as the next diamond joins: its members give way to its parts.
-use Rattle.std.proofs.Common.{◌≡◌, ◌≢◌, ◌⊎◌, ℕ, zero, suc, ◌+◌, ◌*◌, ◌<◌, ◌≤◌, Bool, true, false, ◌||◌, List, [], ◌∷◌, ◌++◌, take, refl, sym, ◌∙◌, ap, subst, inl, inr, arith, true≢false, Some, None}
-use Rattle.std.specs.Prelude.{flat_map, Contains}
+use Rattle.std.proofs.Common.{◌≡◌, ◌⊎◌, ℕ, zero, suc, ◌*◌, ◌<◌, ◌≤◌, Bool, true, false, ◌||◌, List, [], ◌∷◌, take, refl, sym, ◌∙◌, ap, subst, inl, inr, arith, true≢false, Some}
+use Rattle.std.specs.Prelude.{flat_map}
 use Rattle.std.specs.List.{slice_get}
 use Rattle.std.proofs.lemmas.Bool.{cases_Bool, or_left, or_right, or_cases, or_from, or_parts, false_from_ne_true}
 use Rattle.tpz_base.specs.declared.shape.Point.{Point}
 use Rattle.tpz_base.specs.Points.{point_eq}
-use Rattle.tpz_base.specs.Lists.{in_order}
-use Rattle.tpz_base.specs.Tetrahedra.{Tetrahedron, diamond, children, child_0, child_1, at_level, descendants, members, parts, parents, roots}
+use Rattle.tpz_base.specs.Tetrahedra.{Tetrahedron, diamond, children, at_level, descendants, members, parts, parents, roots}
 use Rattle.tpz_base.specs.Cuts.{has_diamond}
 use Rattle.tpz_base.specs.Diamonds.{level_of, record_lt}
-use Rattle.tpz_base.proofs.PointLemmas.{point_eq-true, point_eq_refl, eq-point_eq}
+use Rattle.tpz_base.proofs.PointLemmas.{point_eq-true, point_eq_refl}
 use Rattle.tpz_base.proofs.RecordLt.{record_lt-same, record_lt-level}
 use Rattle.tpz_base.proofs.CutLaw.{Member}
-use Rattle.tpz_base.proofs.Distinct.{member-flat_map, at_its_level}
+use Rattle.tpz_base.proofs.Distinct.{member-flat_map}
 use Rattle.tpz_base.proofs.Members.{NoTwice, no_twice-append, no_twice-differ, level_differs, member_named, named_member}
 use Rattle.tpz_base.proofs.Elements.{Ascending, has-member, member-has, at_all}
-use Rattle.tpz_base.proofs.Diamonds.{IsSplittable, in_levels, level_at, child_at, level_of-diamond, part-parent, parent-part, parent_once, root_or_part, part_level}
+use Rattle.tpz_base.proofs.Diamonds.{IsSplittable, in_levels, level_at, child_at, part-parent, parent-part, parent_once, root_or_part, part_level}
 use Rattle.tetra_name.proofs.Sorting.{Strict, list_below_not}
 use Rattle.tetra_name.proofs.MembersAre.{Before, members_strict}
 use Rattle.tetra_name.proofs.NameFacts.{contains-member, member-contains}

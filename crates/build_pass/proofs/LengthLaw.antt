@@ -1,8 +1,8 @@
 -- The patches of one level hold together at most as many triangles as the input, and so do all patches that are active at one time.
-use Rattle.std.proofs.Common.{◌≡◌, ◌⊎◌, ℕ, zero, suc, ◌+◌, ◌-◌, ◌*◌, ◌<◌, ◌≤◌, Bool, true, false, not, cond, List, [], ◌∷◌, ◌++◌, take, drop, length, refl, sym, ◌∙◌, ap, subst, inl, inr, arith, Some}
+use Rattle.std.proofs.Common.{◌≡◌, ℕ, zero, suc, ◌+◌, ◌-◌, ◌*◌, ◌<◌, ◌≤◌, true, false, not, cond, List, [], ◌∷◌, ◌++◌, take, drop, length, refl, sym, ◌∙◌, ap, subst, inl, inr, arith, Some}
 use Rattle.std.specs.Prelude.{flat_map, sum_by, nat_lt, ◌==◌}
 use Rattle.std.specs.List.{slice_get}
-use Rattle.std.proofs.lemmas.Bool.{cases_Bool, cases_lt, false_from_ne_true, not_from_false, lt-ltb, eq-eqb, eqb-true}
+use Rattle.std.proofs.lemmas.Bool.{cases_Bool, cases_lt, false_from_ne_true, lt-ltb, eq-eqb, eqb-true}
 use Rattle.std.proofs.lemmas.List.{take_all}
 use Rattle.std.proofs.lemmas.List.Concat.{length-flat_map}
 use Rattle.std.proofs.lemmas.List.Sums.{sum_by-cons, sum_by-append, sum_by-take-drop}
@@ -18,7 +18,6 @@ use Rattle.tpz_base.proofs.CutLaw.{Member, sum_by_same_on}
 use Rattle.tpz_base.proofs.Distinct.{member-append, member-flat_map}
 use Rattle.tpz_base.proofs.Elements.{Ascending, has-member, member-has}
 use Rattle.tpz_base.proofs.Diamonds.{IsSplittable, part_level}
-use Rattle.diamond_graph.specs.Closed.{IsClosedSet}
 use Rattle.diamond_graph.proofs.CentreFacts.{level_splittable}
 use Rattle.assign.specs.Leaf.{leaf_patch}
 use Rattle.assign.specs.Splits.{split_set}

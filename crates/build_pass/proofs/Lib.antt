@@ -29,3 +29,4 @@ pub mod StoreSteps
 pub mod BorderLaw
 pub mod LookUp
 pub mod RepresentativeLaw
+pub mod RootNames

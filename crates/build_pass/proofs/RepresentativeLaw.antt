@@ -1,10 +1,9 @@
 -- What a build promises: every conforming cut of its table has the input's signed edge sums, and in it each vertex of the input has a representative
 -- within the error of its diamond.
-use Rattle.std.proofs.Common.{◌≡◌, ℕ, suc, ◌+◌, ◌-◌, ◌*◌, ◌<◌, ◌≤◌, Bool, true, false, cond, not, List, [], ◌∷◌, ◌++◌, map, max, refl, sym, ◌∙◌, ap, subst, inl, inr, arith}
-use Rattle.std.specs.Prelude.{filter, find, flat_map, fold, sum_by}
+use Rattle.std.proofs.Common.{◌≡◌, ℕ, ◌+◌, ◌<◌, ◌≤◌, Bool, true, false, cond, not, List, [], ◌∷◌, map, refl, sym, ◌∙◌, ap, subst, inl, inr, arith}
+use Rattle.std.specs.Prelude.{filter, find, flat_map, sum_by}
 use Rattle.std.specs.Option.{option_map_or}
 use Rattle.std.proofs.lemmas.Bool.{cases_Bool, not_from_false, or_parts}
-use Rattle.tpz_base.specs.declared.shape.Move.{Move}
 use Rattle.tpz_base.specs.declared.shape.Point.{Point}
 use Rattle.tpz_base.specs.declared.shape.Tri.{Tri}
 use Rattle.tpz_base.specs.Lists.{in_order}
@@ -13,7 +12,6 @@ use Rattle.tpz_base.specs.Meshes.{Mesh, SameTriangles, corners_of, edge_sum, tri
 use Rattle.tpz_base.specs.Collapses.{Simplified, move_to, moved, moves_of}
 use Rattle.tpz_base.specs.Tetrahedra.{Tetrahedron, diamond, kids, members, parts, roots, tetrahedron_eq}
 use Rattle.tpz_base.specs.Cuts.{cut_mesh, has_diamond}
-use Rattle.tpz_base.specs.Diamonds.{level_of}
 use Rattle.tpz_base.proofs.PointLemmas.{eq-point_eq, point_eq-true}
 use Rattle.tpz_base.proofs.OrderLemmas.{point_lt_tie}
 use Rattle.tpz_base.proofs.CutLaw.{Member, member-right}
@@ -30,9 +28,9 @@ use Rattle.assign.specs.Leaf.{nearest}
 use Rattle.assign.specs.Splits.{split_set}
 use Rattle.assign.proofs.SplitLaw.{split_above, split_closed, whole_cut}
 use Rattle.patch_file.specs.declared.shape.Params.{Params}
-use Rattle.patch_file.specs.Tables.{Contents, Table, TableRecord, centre_of, contents_of}
-use Rattle.patch_file.specs.Patches.{diamonds_of, error_at, finest_mesh, mesh_of_cut, patch_of, IsTableCut}
-use Rattle.patch_file.specs.Representatives.{IsRepresented, KeepsBorder, Represents}
+use Rattle.patch_file.specs.Tables.{Contents, TableRecord, centre_of, contents_of}
+use Rattle.patch_file.specs.Patches.{diamonds_of, error_at, finest_mesh, patch_of, IsTableCut}
+use Rattle.patch_file.specs.Representatives.{KeepsBorder, Represents}
 use Rattle.patch_file.proofs.Distances.{any-member, flat_map-vertex, fold_max-member, max_dist-same, member-any, sum_vertex, vertex-corner, vertex_sum}
 use Rattle.patch_file.proofs.RepresentedLaw.{IsLifted, IsLifting, represented}
 use Rattle.build_pass.specs.Building.{built_entry, built_moves, built_patch, built_record, fine, nearest_to, reduced, table}

@@ -1,7 +1,7 @@
 -- The records of a build are in record order, closed and saturated, and their errors and boxes are small.
-use Rattle.std.proofs.Common.{◌≡◌, ℕ, zero, suc, ◌+◌, ◌-◌, ◌*◌, ◌^◌, ◌<◌, ◌≤◌, true, List, [], ◌∷◌, map, max, refl, sym, ◌∙◌, ap, ap₂, subst, inl, inr, arith, pow_mono}
-use Rattle.std.specs.Prelude.{filter, fold, zip, drop, IsTrue}
-use Rattle.std.specs.List.{list_all, slice_get}
+use Rattle.std.proofs.Common.{◌≡◌, ℕ, zero, suc, ◌+◌, ◌-◌, ◌*◌, ◌^◌, ◌≤◌, true, List, [], ◌∷◌, map, refl, sym, ◌∙◌, ap, ap₂, subst, arith, pow_mono}
+use Rattle.std.specs.Prelude.{filter, zip, drop, IsTrue}
+use Rattle.std.specs.List.{list_all}
 use Rattle.std.proofs.lemmas.Option.{slice_get-map}
 use Rattle.tpz_base.specs.declared.shape.Point.{Point}
 use Rattle.tpz_base.specs.Meshes.{Mesh, corners_of}
@@ -11,24 +11,23 @@ use Rattle.tpz_base.specs.Diamonds.{level_of, record_lt}
 use Rattle.tpz_base.proofs.CutLaw.{Member}
 use Rattle.tpz_base.proofs.Members.{member-filter}
 use Rattle.tpz_base.proofs.Elements.{all_from, member-map, from_ascending, has-member}
-use Rattle.tpz_base.proofs.Diamonds.{IsSplittable, kid_level}
+use Rattle.tpz_base.proofs.Diamonds.{IsSplittable}
 use Rattle.tetra_name.proofs.OneName.{member_get}
 use Rattle.diamond_graph.specs.declared.record.Record.{Record}
 use Rattle.diamond_graph.specs.Closed.{IsConforming, IsClosedSet, CanSplit}
-use Rattle.diamond_graph.specs.Graphs.{centre_of, fresh_record, halved, IsRecord, IsBox}
-use Rattle.diamond_graph.specs.Saturated.{holds, kid_records, is_saturated, greatest_err, AreInOrder, AreClosed, AreSaturated}
+use Rattle.diamond_graph.specs.Graphs.{centre_of, fresh_record, IsRecord, IsBox}
+use Rattle.diamond_graph.specs.Saturated.{kid_records, is_saturated, greatest_err, AreInOrder, AreClosed, AreSaturated}
 use Rattle.diamond_graph.proofs.SetLaw.{in_order-ascended}
-use Rattle.diamond_graph.proofs.CentreFacts.{all_members, can_split, level_splittable}
-use Rattle.saturate.specs.Raised.{greatest_length, raised, hull_of_all}
+use Rattle.diamond_graph.proofs.CentreFacts.{all_members, can_split}
+use Rattle.saturate.specs.Raised.{greatest_length}
 use Rattle.saturate.proofs.Raising.{saturated_above, all_box}
 use Rattle.assign.specs.Splits.{split_set}
 use Rattle.assign.proofs.SplitLaw.{split_above, split_closed, split_ascends}
 use Rattle.patch_file.proofs.Distances.{fold_max-least}
 use Rattle.patch_file.specs.declared.shape.Params.{Params}
 use Rattle.patch_file.specs.Tables.{TableRecord, entries_of}
-use Rattle.build_pass.specs.Building.{reduced, fine, built_moves, fine_box, entry_above, built_entry, built_record, table}
-use Rattle.build_pass.proofs.CutSteps.{IsNext}
-use Rattle.build_pass.proofs.EntryLaw.{AreBuiltFrom, entry_step, entry_is, map_same_on}
+use Rattle.build_pass.specs.Building.{fine, built_moves, fine_box, entry_above, built_entry, built_record, table}
+use Rattle.build_pass.proofs.EntryLaw.{AreBuiltFrom, entry_step}
 use Rattle.build_pass.proofs.Reduced.{AreRight, moves_near}
 use Rattle.build_pass.proofs.RightLaw.{fine-right, hull_holds, hull_box, fresh_box}
 

@@ -1,16 +1,14 @@
 -- At the start each triangle of a stream weighs the level of the stream's name: there is such a weight, and it is small.
-use Rattle.std.proofs.Common.{◌≡◌, ◌⊎◌, ℕ, zero, suc, ◌+◌, ◌*◌, ◌<◌, ◌≤◌, Bool, true, false, cond, List, [], ◌∷◌, length, refl, sym, ◌∙◌, ap, subst, inl, inr, arith, true≢false, Option, Some, None}
-use Rattle.std.specs.Prelude.{◌==◌, sum_by, IsSome}
+use Rattle.std.proofs.Common.{◌≡◌, ℕ, zero, suc, ◌+◌, ◌*◌, ◌≤◌, Bool, true, false, cond, List, [], ◌∷◌, length, refl, sym, ◌∙◌, ap, subst, inl, inr, arith, true≢false, Option, Some, None}
+use Rattle.std.specs.Prelude.{◌==◌, sum_by}
 use Rattle.std.specs.Option.{option_map, option_map_or, unwrap_or}
-use Rattle.std.specs.List.{slice_get, slice_index_or}
 use Rattle.std.specs.Ordering.{eq_by_cmp}
 use Rattle.std.specs.FinMap.{find, get, entries, get-entries}
 use Rattle.std.proofs.lemmas.Bool.{cases_Bool, eq-eqb, eqb-true}
 use Rattle.std.proofs.lemmas.Map.Views.{tells_apart}
 use Rattle.std.proofs.lemmas.List.Sums.{sum_by-cons}
 use Rattle.tpz_base.specs.Meshes.{Mesh}
-use Rattle.tpz_base.specs.Diamonds.{level_of}
-use Rattle.tpz_base.specs.Tetrahedra.{Tetrahedron, members}
+use Rattle.tpz_base.specs.Tetrahedra.{members}
 use Rattle.tpz_base.proofs.Members.{member_named}
 use Rattle.tpz_base.proofs.Diamonds.{level_at}
 use Rattle.tetra_name.specs.declared.shape.Tet.{Tet}

@@ -4,6 +4,7 @@
 //! where it is within the budget, and its triangles are given to the nearest members, whose patches they are from then on.
 #![tactic(auto)]
 
+mod base;
 mod coarse;
 mod ends;
 mod fault;
