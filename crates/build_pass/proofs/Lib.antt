@@ -8,6 +8,7 @@ pub mod Ending
 pub mod Writing
 pub mod Coarsening
 pub mod Moving
+pub mod Doing
 mod WorkedMeshes
 mod WorkedTables
 pub mod Reduced

@@ -15,7 +15,10 @@ use Rattle.tetra_name.specs.Names.{point_of}
 use Rattle.tri_stream.specs.Streams.{StreamsState, total, LeavesAll}
 use Rattle.assign.specs.Names.{LeafTable}
 use Rattle.build_pass.specs.Keyed.{list_named, lists_named, name_of, part_names, size_named, sizes_named, told_named, DropsAll, Shares, Weighs}
-use Rattle.build_pass.specs.Passes.{Moved}
+use Rattle.patch_file.specs.Writing.{WriterState}
+use Rattle.edge_collapse.specs.Benches.{BenchState}
+use Rattle.build_pass.specs.Passes.{Going, Moved}
+use Rattle.build_pass.specs.Writes.{IsIdle}
 use Rattle.build_pass.proofs.Parts.{sizes_read, sizes_shared, still_told, told_is}
 use Rattle.build_pass.proofs.Sharing.{all_alike}
 use Rattle.build_pass.proofs.Tables.{named_same}
@@ -76,3 +79,26 @@ module _ (L budget : ℕ) (c : Half) (m m' : LeafTable) (s s' : StreamsState) (h
       let within = mul-le-mul_right (level_of L (point_of c)) a.few in
       let sum = r.2 in
       (r.0, r.1, omega arith)
+
+-- there is room for the records that are left
+pub going_next : (L left : ℕ) (m m' : LeafTable) (s s' : StreamsState) (w w' : WriterState) (b b' : BenchState) (c : Half) (h h' : Option (List ℕ)) → IsSplittable L (point_of c)
+    → Going L (suc left) m s w b → Moved L b.shop.budget c m m' s s' h h' → s'.l ≡ s.l → w'.progress.end ≤ w.progress.end + (2044 + 108 * sizes_named s m (part_names L c))
+    → IsIdle b' → b'.shop.budget ≡ b.shop.budget → Going L left m' s' w' b'
+going_next L left m m' s s' w w' b b' c h h' splits going moved same size idle budget =
+    let r = moved_weight L b.shop.budget c m m' s s' h h' splits moved going.weight going.weighs in
+    let total = moved_total L b.shop.budget c m m' s s' h h' splits moved in
+    let few = going.few in
+    let room = going.room in
+    let less = r.2 in
+    let most = going.budget in
+    record {
+      l = same ∙ going.l;
+      keyed = moved.drops.keyed;
+      names = moved.drops.names (moved.shares.names going.names);
+      few = omega arith;
+      weight = r.0;
+      weighs = r.1;
+      room = omega arith;
+      idle = idle;
+      budget = omega arith;
+    }

@@ -1,24 +1,21 @@
 // One record is built: its block is written, its error and box are set, and the streams of the members' children give way to those of the members.
-ghost use Rattle.std.specs.Prelude.{◌≡◌, ◌≤◌, ◌<◌, ◌+◌, ◌*◌, ◌++◌, ◌∷◌, ◌^◌, [], ℕ, List, Ok, Some, length, flat_map, map, slice_get, IfErr, IfOk, IfSome, IsTrue, OnOk};
+ghost use Rattle.std.specs.Prelude.{◌≡◌, ◌≤◌, ◌<◌, ◌+◌, ◌*◌, ◌++◌, ◌^◌, ℕ, List, suc, length, flat_map, map, IfErr, IfOk, IsTrue, OnOk};
 ghost use Rattle.std.specs.Option.{ForSome};
-ghost use Rattle.std.specs.List.{slice_set};
-ghost use Rattle.tpz_base.specs.declared.shape.Cell.{Cell};
 ghost use Rattle.tpz_base.specs.declared.shape.Move.{Move};
 ghost use Rattle.tpz_base.specs.Diamonds.{level_of};
 ghost use Rattle.tpz_base.specs.Meshes.{Mesh};
 ghost use Rattle.tetra_name.specs.Names.{point_of, IsBound, IsCentre};
-ghost use Rattle.diamond_graph.specs.Graphs.{centre_of, centres, fresh_record, halved, IsBox};
-ghost use Rattle.diamond_graph.specs.Saturated.{holds, kid_records};
+ghost use Rattle.diamond_graph.specs.Graphs.{fresh_record, halved, IsBox};
+ghost use Rattle.diamond_graph.specs.Saturated.{holds};
 ghost use Rattle.tri_stream.specs.Streams.{total, Stands, Stays};
 ghost use Rattle.tpz_io.specs.Told.{followed_by};
-ghost use Rattle.saturate.specs.Raised.{greatest_length, raised};
+ghost use Rattle.saturate.specs.Raised.{greatest_length};
 ghost use Rattle.patch_file.specs.Appended as appended;
 ghost use Rattle.patch_file.specs.Bytes.{counted, move_bytes, patch_bytes};
-ghost use Rattle.patch_file.specs.Tables.{TableRecord};
+ghost use Rattle.patch_file.specs.declared.shape.Params.{Params};
 ghost use Rattle.patch_file.specs.Writing.{further};
-ghost use Rattle.patch_file.specs.Written.{HasWritten};
 ghost use Rattle.build_pass.specs.Keyed.{list_named, lists_named, part_names, sizes_named, IsKeyed};
-ghost use Rattle.build_pass.specs.Passes.{peak_with, Going, Moved};
+ghost use Rattle.build_pass.specs.Passes.{peak_with, Done, Going, Moved};
 ghost use Rattle.build_pass.specs.Writes.{hull_of, moves_in, IsIdle, KeepsStore, Stops};
 
 use crate::coarse::coarse;
@@ -103,4 +100,44 @@ fn put_block<B: Blob, S: Blob>(
     let own = coarse(streams, work, leaves, bench, writer, store, centre, l, n)?;
     end_all(streams, work, leaves, centre, l)?;
     Ok(Measured { own, hull })
+}
+
+/// Builds the record at a place, counted from 0, when all later ones are built: its block and the record are written, its error and box are set in the graph,
+/// and the streams of the members take the place of those of their children.
+pub(crate) fn build_record<B: Blob, S: Blob>(
+    streams: &mut Streams,
+    work: &mut B,
+    graph: &mut Graph,
+    leaves: &mut Leaves,
+    bench: &mut Bench,
+    writer: &mut StoreWriter,
+    store: &mut S,
+    i: u32,
+) -> Result<(), BuildFault>
+    requires place { i < length graph.old.records }
+    requires going { Going graph.old.l (suc i) leaves.old streams.old writer.old bench.old }
+    requires left { writer.old.progress.left ≡ suc i }
+    requires stands { ForSome (B.held work.old) (Stands streams.old) }
+    requires begun { ForSome (S.held store.old) (appended.Stands writer.old.tail) }
+    ensures going { OnOk result (Going graph.new.l i leaves.new streams.new writer.new bench.new) }
+    ensures left { OnOk result (writer.new.progress.left ≡ i) }
+    ensures begun { OnOk result (ForSome (S.held store.new) (appended.Stands writer.new.tail)) }
+    ensures l { graph.new.l ≡ graph.old.l }
+    ensures count { length graph.new.records ≡ length graph.old.records }
+    ensures budget { OnOk result (bench.new.shop.budget ≡ bench.old.shop.budget) }
+    ensures done { OnOk result ((M : Mesh) (params : Params) → params.l ≡ graph.old.l → params.budget ≡ bench.old.shop.budget
+        → Done M params (suc i) graph.old.records leaves.old streams.old (B.held work.old) writer.old (S.held store.old) bench.old.shop.peak
+        → Done M params i graph.new.records leaves.new streams.new (B.held work.new) writer.new (S.held store.new) bench.new.shop.peak) }
+    ensures stays { Stays streams.old streams.new (B.held work.new) }
+    ensures later { B.faults work.old ≤ B.faults work.new }
+    ensures store { KeepsStore (S.faults store.old) (S.faults store.new) (S.reads store.old) (S.reads store.new) (S.outcomes store.old) (S.outcomes store.new) (S.held store.old) (S.held store.new) }
+    ensures stops { IfErr result (λ fault. Stops fault (S.faults store.old) (S.faults store.new) (S.held store.new)) }
+{
+    let l = graph.l();
+    let centre = graph.centre_at(i);
+    let e = put_block(streams, work, leaves, bench, writer, store, centre, l)?;
+    raise(graph, i, e.own, e.hull);
+    let record = graph.record_at(i);
+    writer.end_block(store, &record)?;
+    Ok(())
 }
