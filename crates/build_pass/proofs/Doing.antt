@@ -5,7 +5,8 @@ use Rattle.std.specs.List.{slice_set}
 use Rattle.std.specs.Option.{ForSome, option_map}
 use Rattle.std.specs.FinMap.{get}
 use Rattle.std.proofs.lemmas.Bool.{cases_Bool, cases_eq}
-use Rattle.std.proofs.lemmas.Option.{get_or_from_slice_get, slice_get-map, slice_get_within}
+use Rattle.std.proofs.lemmas.List.{length-set}
+use Rattle.std.proofs.lemmas.Option.{get_or_from_slice_get, slice_get-map, slice_get_cases, slice_get_within}
 use Rattle.std.proofs.Math.Seq.{drop-cons}
 use Rattle.tpz_base.specs.declared.shape.Cell.{Cell}
 use Rattle.tpz_base.specs.declared.shape.Move.{Move}
@@ -212,3 +213,14 @@ module _ (M : Mesh) (params : Params) (i : ℕ) (c : Half) (few : params.l ≤ 3
             peak ∙ peak_next params.l params.budget F M (point_of c) (drop (suc i) F) pk (sizes_named s0 m0 (part_names params.l c)) size_is done.greatest
             ∙ ap (greatest_fine params.l params.budget F M) (sym (drop_here F i (point_of c) next.here));
       }
+
+-- the element at a place within a list
+pub some_at : {X : Type 0} (xs : List X) (i : ℕ) → i < length xs → (x : X) × (slice_get xs i ≡ Some x)
+some_at xs i within =
+    elim (slice_get_cases xs i).1 [
+      | inl w ↦ (w.0, w.2)
+      | inr past ↦ absurd (omega (arith, past.0))
+    ]
+
+pub same_length : {X : Type 0} (xs : List X) (i : ℕ) (y : X) → length (slice_set xs i y) ≡ length xs
+same_length xs i y = simp length-set
