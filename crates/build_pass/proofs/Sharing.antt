@@ -202,7 +202,7 @@ all_have P xs i x all is = subst P (get_or_from_slice_get xs i x x is) (all i x 
 pub read_all : (s : StreamsState) (id : StreamId) (k : ℕ) (next : Option Tri) → next ≡ None ↔ (count_of s id ≡ Some k) → next ≡ None → k ≡ size_of s id
 read_all s id k next end none = sym (ap (λ o. unwrap_or o 0) (end.0 none))
 
-alike_named : (s s' : StreamsState) (h h' : Option (List ℕ)) (m m' : LeafTable) (x : Tet) → told_named s' h' m' x ≡ told_named s h m x → Alike h h'
+pub alike_named : (s s' : StreamsState) (h h' : Option (List ℕ)) (m m' : LeafTable) (x : Tet) → told_named s' h' m' x ≡ told_named s h m x → Alike h h'
 alike_named s s' h h' m m' x same = alike_lists h h' (λ bytes. list_named s bytes m x) (λ bytes. list_named s' bytes m' x) same
 
 pub shares_alike : (L : ℕ) (c : Half) (n : ℕ) (m m' : LeafTable) (s s' : StreamsState) (h h' : Option (List ℕ)) (x : Tet) → x.centre ≢ c → Shares L c n m m' s s' h h' → Alike h h'

@@ -1,11 +1,12 @@
 -- Patches that are written one after another.
-use Rattle.std.proofs.Common.{◌≡◌, ◌<◌, ◌≤◌, ◌+◌, ◌*◌, ◌++◌, ◌∷◌, [], Some, None, Option, Result, Err, ℕ, Bool, List, length, length-append, refl, sym, ◌∙◌, ap, ap₂, subst, arith, append_assoc, append-nil, add_assoc}
+use Rattle.std.proofs.Common.{◌≡◌, ◌<◌, ◌≤◌, ◌+◌, ◌*◌, ◌++◌, ◌∷◌, [], Some, None, Option, Result, Err, ℕ, Bool, List, map, length, length-append, refl, sym, ◌∙◌, ap, ap₂, subst, arith, append_assoc, append-nil, add_assoc}
 use Rattle.std.specs.Prelude.{All, flat_map, fold, is_some, IfErr}
 use Rattle.std.specs.Option.{ForSome, option_map}
 use Rattle.std.proofs.lemmas.Grind.{flat_map-append}
 use Rattle.std.proofs.lemmas.List.Elements.{All-append, All-push}
 use Rattle.std.proofs.lemmas.List.Sums.{fold-append}
 use Rattle.tpz_base.specs.declared.shape.Cell.{Cell}
+use Rattle.tpz_base.specs.declared.shape.Move.{Move}
 use Rattle.tpz_base.specs.declared.shape.Tri.{Tri}
 use Rattle.tpz_base.specs.Boxes.{hull_point}
 use Rattle.tpz_base.specs.Meshes.{Mesh, corners_of}
@@ -13,7 +14,7 @@ use Rattle.tpz_io.specs.Causes.{Rose}
 use Rattle.tpz_io.specs.Told.{followed_by}
 use Rattle.tri_stream.specs.Lists.{IsHeld}
 use Rattle.patch_file.specs.Appended.{content, Appended, IsClosed, Stands}
-use Rattle.patch_file.specs.Bytes.{Bytes, counted, patch_bytes, tri_bytes, word_32}
+use Rattle.patch_file.specs.Bytes.{Bytes, counted, move_bytes, patch_bytes, tri_bytes, word_32}
 use Rattle.patch_file.specs.Writing.{further, Progress, WriterState}
 use Rattle.build_pass.specs.declared.fault.BuildFault.{BuildFault}
 use Rattle.build_pass.specs.declared.fault.BuildFault.TheVariants.{Memory, StoreFault}
@@ -131,3 +132,36 @@ stops_memory fault f f' told a is stands = record {
 
 pub stops_at : {X : Type 0} (r : Result X BuildFault) (fault : BuildFault) (f f' : ℕ) (told : Option Bytes) → r ≡ Err fault → Stops fault f f' told → IfErr r (λ y. Stops y f f' told)
 stops_at r fault f f' told e h = rw e h
+
+-- how many bytes patches and moves have
+length_tris : (N : Mesh) → length (flat_map tri_bytes N) ≡ 36 * length N
+length_tris [] = refl
+length_tris (t ∷ N) = let rest = length_tris N in length-append (tri_bytes t) (flat_map tri_bytes N) ∙ omega arith
+
+pub length_patches : (Ns : List Mesh) → length (flat_map patch_bytes Ns) ≡ 4 * length Ns + 36 * length (joined Ns)
+length_patches [] = refl
+length_patches (N ∷ Ns) =
+    let rest = length_patches Ns in
+    let here = length_tris N in
+    let both = length-append N (joined Ns) in
+    let head : length (patch_bytes N) ≡ 4 + length (flat_map tri_bytes N) = length-append (word_32 (length N)) (flat_map tri_bytes N) in
+    length-append (patch_bytes N) (flat_map patch_bytes Ns) ∙ omega arith
+
+length_each : (ms : List Move) → length (flat_map move_bytes ms) ≡ 24 * length ms
+length_each [] = refl
+length_each (m ∷ ms) = let rest = length_each ms in length-append (move_bytes m) (flat_map move_bytes ms) ∙ omega arith
+
+pub length_moves : (ms : List Move) → length (counted move_bytes ms) ≡ 4 + 24 * length ms
+length_moves ms = let each = length_each ms in length-append (word_32 (length ms)) (flat_map move_bytes ms) ∙ omega arith
+
+pub length_block : (Ns : List Mesh) (ms : List Move)
+    → 4 * length Ns + 36 * length (joined Ns) + (4 + 24 * length ms) ≡ length (flat_map patch_bytes Ns ++ counted move_bytes ms)
+length_block Ns ms =
+    let a = length_patches Ns in
+    let b = length_moves ms in
+    sym (length-append (flat_map patch_bytes Ns) (counted move_bytes ms) ∙ omega arith)
+
+-- patches of names, joined, are their lists joined
+pub joined_map : {X : Type 0} (f : X → Mesh) (xs : List X) → joined (map f xs) ≡ flat_map f xs
+joined_map f [] = refl
+joined_map f (x ∷ xs) = ap (λ (N : Mesh). f x ++ N) (joined_map f xs)
