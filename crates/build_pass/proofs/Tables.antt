@@ -258,8 +258,7 @@ dropped_weight L name id m s s' h h' keyed is e p w =
     let was : f k ≡ size_named s m name * level_named L name =
     scaled (size_of s id) (size_named s m name) (w.weight k) (level_named L name) (sym (size_some s m name id is)) (w.level name id is)
     in
-    let all = w.sum in
-    (
+    let all = w.sum in (
       sum_below w.bound g,
       record {
         weight = w.weight;

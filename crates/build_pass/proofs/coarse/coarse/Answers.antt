@@ -14,18 +14,17 @@ returns-in_ok-pass-clause-written g c =
     let s = c.args.streams.now in
     let m = c.args.leaves.now in
     let names = part_names c.args.l c.args.centre in
-    let budget = c.args.bench.now.shop.budget in
-    (
+    let budget = c.args.bench.now.shop.budget in (
       [],
       c.in_ok-pass.ensures.written,
       refl,
       omega arith,
       λ bytes is.
-    let size = lists_size s bytes m names in
-    let shop = ap (λ (x : Shop). x.budget) c.shop.ensures in
-    let most = c.budget.ensures in
-    let much : budget < length (lists_named s bytes m names) = omega arith in
-      sym (past_moves budget (lists_named s bytes m names) much),
+          let size = lists_size s bytes m names in
+          let shop = ap (λ (x : Shop). x.budget) c.shop.ensures in
+          let most = c.budget.ensures in
+          let much : budget < length (lists_named s bytes m names) = omega arith in
+          sym (past_moves budget (lists_named s bytes m names) much),
     )
 
 pub returns-in_ok-pass-clause-gains : goal.returns-in_ok-pass-clause-gains

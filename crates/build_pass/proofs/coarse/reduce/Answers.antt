@@ -101,11 +101,10 @@ returns-clause-written g c =
     let first = c.moves.ensures ∙ c.simplify.ensures.moves ∙ sym (ap (moves_of N) f.1) in
     let few = moves_few budget N in
     let all = f.0 in
-    let w = c.in_ok-moves.ensures in
-    (
+    let w = c.in_ok-moves.ensures in (
       moves_in budget N,
       subst (λ (xs : List Move). WritesMoves xs c.args.writer.now c.moves-3.new.self (told c.args.store.now) (told c.moves-3.new.store)) ms
-      (record { content = w.content; progress = w.progress; stands = w.stands }),
+          (record { content = w.content; progress = w.progress; stands = w.stands }),
       c.own_error-own.ensures ∙ ap greatest_length first,
       omega arith,
       λ bytes is. ap (moves_in budget) (c.in_ok-load_all.ensures.mesh bytes is),
@@ -132,12 +131,11 @@ returns-clause-shares g c =
     let mesh = ap (λ (s : Shop). s.mesh) c.shop.ensures ∙ c.simplify.ensures.mesh ∙ sym (ap (λ (s : Simplified). s.mesh) f.1) in
     let count = ap length mesh in
     let less = reduced-shorter budget N in
-    let all = f.0 in
-    (
+    let all = f.0 in (
       length c.shop.result.now.mesh,
       omega arith,
       shares_after c.args.l c.args.centre (length c.shop.result.now.mesh) c.args.leaves.now c.share_all.new.leaves c.args.streams.now c.load_all.new.streams c.share_all.new.streams
-      (held c.args.work.now) (held c.load_all.new.work) (held c.share_all.new.work) c.requires.keyed c.in_ok-load_all.ensures.all c.in_ok-share_all.ensures.shares,
+          (held c.args.work.now) (held c.load_all.new.work) (held c.share_all.new.work) c.requires.keyed c.in_ok-load_all.ensures.all c.in_ok-share_all.ensures.shares,
     )
 
 pub returns-clause-gains : goal.returns-clause-gains

@@ -70,13 +70,13 @@ parts-preserved g c =
       written = (
         Ns ++ w.0 ∷ [],
         more_patches L Ns (w.0 ∷ []) c.args.from c.parts.cell c.in_ok-cell.cell c.args.writer.now c.parts.writer c.write_named.new.writer (told c.args.store.now)
-        (told c.parts.store) (told c.write_named.new.store) inv.written.1 patch,
+            (told c.parts.store) (told c.write_named.new.store) inv.written.1 patch,
         length-append Ns (w.0 ∷ []) ∙ ap (λ i. i + 1) inv.written.2,
         joined_one Ns w.0 ∙ ap₂ (λ (i j : ℕ). i + j) inv.written.3 (w.2 ∙ same) ∙ sym next,
         λ bytes is.
-        let now = still_told h0 h1 bytes (all_alike s0 s1 h0 h1 inv.all) is in
-        let list = told_is s0 s1 h0 h1 m m x bytes now.0 (named_same s0 s1 h0 h1 m m x (all_alike s0 s1 h0 h1 inv.all) refl (λ id at. inv.all.lists id)) is now.1 in
-        ap₂ (λ (Ms : List Mesh) (N : Mesh). Ms ++ N ∷ []) (inv.written.4 bytes is) (w.3 now.0 now.1 ∙ list) ∙ sym (map_next (list_named s0 bytes m) names k x part),
+            let now = still_told h0 h1 bytes (all_alike s0 s1 h0 h1 inv.all) is in
+            let list = told_is s0 s1 h0 h1 m m x bytes now.0 (named_same s0 s1 h0 h1 m m x (all_alike s0 s1 h0 h1 inv.all) refl (λ id at. inv.all.lists id)) is now.1 in
+            ap₂ (λ (Ms : List Mesh) (N : Mesh). Ms ++ N ∷ []) (inv.written.4 bytes is) (w.3 now.0 now.1 ∙ list) ∙ sym (map_next (list_named s0 bytes m) names k x part),
       );
       stays = record { base = n.stays.base ∙ inv.stays.base; l = n.stays.l ∙ inv.stays.l; stands = n.stays.stands };
       later = let a = c.write_named.ensures.later in let b = inv.later in omega arith;

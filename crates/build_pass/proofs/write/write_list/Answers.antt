@@ -26,7 +26,7 @@ triangles-init g c =
       written = (
         [],
         gathers_start c.args.streams.now.l c.count-n.result c.args.from c.args.writer.now c.patch_head.new.self (told c.args.store.now) (told c.patch_head.new.store)
-        head.content head.progress head.stands,
+            head.content head.progress head.stands,
         sym none,
         λ M was. rw none refl,
       );
@@ -64,11 +64,11 @@ triangles-preserved g c =
       written = (
         N ++ t ∷ [],
         gathers_next s0.l c.count-n.result N t c.args.from c.triangles.cell c.hull_with-cell.result c.args.writer.now c.triangles.writer c.tri.new.self (told c.args.store.now)
-        (told c.triangles.store) (told c.tri.new.store) inv.written.1 right c.hull_with-cell.ensures tri.content tri.progress tri.stands,
+            (told c.triangles.store) (told c.tri.new.store) inv.written.1 right c.hull_with-cell.ensures tri.content tri.progress tri.stands,
         length-append N (t ∷ []) ∙ ap (λ n. n + 1) inv.written.2 ∙ sym one,
         λ M was.
-        let here : slice_get M c.triangles.at.given ≡ Some t = sym (read.next M (ap (told_list s1 h1) inv.stream ∙ inv.all.lists id ∙ was)) ∙ c.in-Some.is in
-        ap (λ (K : Mesh). K ++ t ∷ []) (inv.written.3 M was) ∙ sym (one_more M c.triangles.at.given t here) ∙ ap (λ n. take n M) (sym one),
+            let here : slice_get M c.triangles.at.given ≡ Some t = sym (read.next M (ap (told_list s1 h1) inv.stream ∙ inv.all.lists id ∙ was)) ∙ c.in-Some.is in
+            ap (λ (K : Mesh). K ++ t ∷ []) (inv.written.3 M was) ∙ sym (one_more M c.triangles.at.given t here) ∙ ap (λ n. take n M) (sym one),
       );
       stays = record { base = read.kept.base ∙ inv.stays.base; l = read.kept.l ∙ inv.stays.l; stands = read.kept.stands };
       later = let a = read.later in let b = inv.later in omega arith;
@@ -96,13 +96,12 @@ returns-clause-written g c =
     let same = same_size s0 s1 id (inv.all.counts id) in
     let all = read_all s1 c.triangles.at.stream c.triangles.at.given c.in_ok-t.field-0 read.end c.in_default.is in
     let size : c.triangles.at.given ≡ size_of s0 id = all ∙ ap (size_of s1) inv.stream ∙ same in
-    let count : size_of s0 id ≡ c.count-n.result = ap (λ o. unwrap_or o 0) c.count-n.ensures.value in
-    (
+    let count : size_of s0 id ≡ c.count-n.result = ap (λ o. unwrap_or o 0) c.count-n.ensures.value in (
       N,
       one_patch s0.l c.count-n.result N c.args.from c.triangles.cell c.args.writer.now c.triangles.writer (told c.args.store.now) (told c.triangles.store)
-      (sym count ∙ sym size ∙ sym inv.written.2) inv.written.1,
+          (sym count ∙ sym size ∙ sym inv.written.2) inv.written.1,
       inv.written.2 ∙ size,
       λ M was.
-      let none : slice_get M c.triangles.at.given ≡ None = sym (read.next M (ap (told_list s1 (held c.triangles.work)) inv.stream ∙ inv.all.lists id ∙ was)) ∙ c.in_default.is in
-      inv.written.3 M was ∙ all_taken M c.triangles.at.given none,
+          let none : slice_get M c.triangles.at.given ≡ None = sym (read.next M (ap (told_list s1 (held c.triangles.work)) inv.stream ∙ inv.all.lists id ∙ was)) ∙ c.in_default.is in
+          inv.written.3 M was ∙ all_taken M c.triangles.at.given none,
     )

@@ -35,11 +35,10 @@ returns-in_ok-patch_head-in-None-clause-written g c =
     let m = c.args.leaves.now in
     let none = sym c.stream.ensures ∙ c.in-None.is in
     let told = g.S.Blob.held in
-    let head = c.in_ok-patch_head-in-None.ensures in
-    (
+    let head = c.in_ok-patch_head-in-None.ensures in (
       [],
       one_patch s.l 0 [] c.args.from c.args.from c.args.writer.now c.patch_head.new.self (told c.args.store.now) (told c.patch_head.new.store) refl
-      (gathers_start s.l 0 c.args.from c.args.writer.now c.patch_head.new.self (told c.args.store.now) (told c.patch_head.new.store) head.content head.progress head.stands),
+          (gathers_start s.l 0 c.args.from c.args.writer.now c.patch_head.new.self (told c.args.store.now) (told c.patch_head.new.store) head.content head.progress head.stands),
       sym (size_none s m c.args.name none),
       λ bytes is. sym (named_empty s bytes m c.args.name none),
     )
