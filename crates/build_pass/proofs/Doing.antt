@@ -119,7 +119,7 @@ module _ (M : Mesh) (params : Params) (i : ℕ) (c : Half) (few : params.l ≤ 3
     (names : AllNames params.l m0)
     (moved : Moved params.l params.budget c m0 m2 s0 s2 h0 h2)
     (block : ForSome h0 (λ bytes. (Ns ≡ map (list_named s0 bytes m0) (part_names params.l c)) × (ms ≡ moves_in params.budget (lists_named s0 bytes m0 (part_names params.l c)))
-        × (own ≡ greatest_length ms) × (hull ≡ hull_of (fresh_record (point_of c)).cell (lists_named s0 bytes m0 (part_names params.l c)))))
+    × (own ≡ greatest_length ms) × (hull ≡ hull_of (fresh_record (point_of c)).cell (lists_named s0 bytes m0 (part_names params.l c)))))
     (content_1 : content w1.tail t1 ≡ followed_by (content w0.tail t0) (flat_map patch_bytes Ns ++ counted move_bytes ms))
     (progress_1 : w1.progress ≡ further w0.progress (length (flat_map patch_bytes Ns ++ counted move_bytes ms)))
     (left : 0 < w1.progress.left)
