@@ -1,6 +1,6 @@
 -- The base behind the records.
-use Rattle.std.proofs.Common.{◌≡◌, ◌+◌, ◌*◌, ◌≤◌, ◌<◌, [], ◌∷◌, ◌++◌, Some, None, Option, Result, Err, ℕ, zero, suc, List, map, length, drop, refl, sym, ◌∙◌, ap, subst, arith}
-use Rattle.std.specs.Prelude.{flat_map, sum_by, OnErr}
+use Rattle.std.proofs.Common.{◌≡◌, ◌+◌, ◌*◌, ◌≤◌, [], ◌∷◌, Some, None, Option, Result, Err, ℕ, zero, suc, List, map, length, drop, refl, sym, ◌∙◌, ap, subst, arith}
+use Rattle.std.specs.Prelude.{flat_map, OnErr}
 use Rattle.std.specs.Option.{ForSome, option_map, unwrap_or}
 use Rattle.std.specs.FinMap.{get}
 use Rattle.std.proofs.lemmas.List.Sums.{sum_by-cons}
@@ -74,10 +74,9 @@ closed_base M params L s leaves work rs peak w0 w1 w2 t0 t1 Ns from cell l_is d 
     let records = drop 0 (table M params).records in
     let first : HasWritten (length F) records [] w1 t0 =
     subst (λ w. HasWritten (length F) records [] w t0) (sym start) (written_base (length F) records [] w0 t0 d.written)
-    in
-    (
+    in (
       told d.bytes d.told ∙ ap (λ K. map (list_named s d.bytes leaves) (root_names K)) (sym l_is) ∙ roots_built params.l params.budget F M leaves s work d.bytes d.streams d.told,
       written_more (length F) records [] (flat_map patch_bytes Ns) w1 w2 t0 t1 first
-      (p.progress ∙ further_as w1.progress (4 * length Ns + 36 * length (joined Ns)) (length (flat_map patch_bytes Ns)) (sym (length_patches Ns))) p.content,
+          (p.progress ∙ further_as w1.progress (4 * length Ns + 36 * length (joined Ns)) (length (flat_map patch_bytes Ns)) (sym (length_patches Ns))) p.content,
       ap (λ q. q.base_start) p.progress ∙ ap (λ (w : WriterState). w.progress.base_start) start ∙ base_begins M params w0 t0 d.written,
     )

@@ -181,10 +181,10 @@ module _ (L : ℕ) (F : List Point) (i : ℕ) (d : Point) (h : IsNext L F i d) w
               | inr e ↦ (let same : level_of L d ≡ level_of L (diamond T) = ap (level_of L) (point_eq-true d (diamond T) e) in omega (arith, level, same))
             ]);
         below = inr (
-            p.0,
-            member-contains (descendants L) p.0 p.1,
-            member-contains (children p.0) T p.3,
-            subst (λ x. has_diamond (take (suc i) F) x ≡ true) (sym p.2) joins,
+          p.0,
+          member-contains (descendants L) p.0 p.1,
+          member-contains (children p.0) T p.3,
+          subst (λ x. has_diamond (take (suc i) F) x ≡ true) (sym p.2) joins,
         );
       }
 
@@ -218,9 +218,9 @@ module _ (L : ℕ) (F : List Point) (i : ℕ) (d : Point) (h : IsNext L F i d) w
       elim (cases_Bool (point_eq d (diamond T))) [
         | inl e ↦ inl (subst (λ x. Member (members L x) T) (sym (point_eq-true d (diamond T) e)) (named_member L T (leaf_within T leaf)))
         | inr e ↦ inr (record {
-            whole = front_more F i d (diamond T) h.here ∙ or_from (has_diamond (take i F) (diamond T)) (point_eq d (diamond T)) leaf.whole e;
-            below = elim leaf.below [ inl root ↦ inl root | inr p ↦ inr (p.0, p.1, p.2, joined (diamond p.0) p.3) ];
-          })
+          whole = front_more F i d (diamond T) h.here ∙ or_from (has_diamond (take i F) (diamond T)) (point_eq d (diamond T)) leaf.whole e;
+          below = elim leaf.below [ inl root ↦ inl root | inr p ↦ inr (p.0, p.1, p.2, joined (diamond p.0) p.3) ];
+        })
       ]
 
   -- a leaf of the front with the next diamond is a part of it, or was a leaf

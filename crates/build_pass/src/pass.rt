@@ -150,7 +150,15 @@ pub fn build<W: Blob, S: Blob>(
     let records = graph.len();
     let l = graph.l();
     writer.begin(store, records)?;
-    build_all(streams, work, &mut graph, &mut leaves, bench, &mut writer, store)?;
+    build_all(
+        streams,
+        work,
+        &mut graph,
+        &mut leaves,
+        bench,
+        &mut writer,
+        store,
+    )?;
     close(streams, work, &leaves, writer, store, l, &params)?;
     Ok(Built {
         records,

@@ -78,8 +78,8 @@ fn put_block<B: Blob, S: Blob>(
         × (appended.content writer.new.tail (S.held store.new) ≡ followed_by (appended.content writer.old.tail (S.held store.old)) (flat_map patch_bytes Ns ++ counted move_bytes ms))
         × (writer.new.progress ≡ further writer.old.progress (length (flat_map patch_bytes Ns ++ counted move_bytes ms)))
         × ForSome (B.held work.old) (λ bytes. let N = lists_named streams.old bytes leaves.old (part_names l centre) in
-            (Ns ≡ map (list_named streams.old bytes leaves.old) (part_names l centre)) × (ms ≡ moves_in bench.old.shop.budget N)
-            × (e.own ≡ greatest_length ms) × (e.hull ≡ hull_of (fresh_record (point_of centre)).cell N))) }
+        (Ns ≡ map (list_named streams.old bytes leaves.old) (part_names l centre)) × (ms ≡ moves_in bench.old.shop.budget N)
+        × (e.own ≡ greatest_length ms) × (e.hull ≡ hull_of (fresh_record (point_of centre)).cell N))) }
     ensures size { OnOk result (writer.new.progress.end ≤ writer.old.progress.end + (2044 + 108 * sizes_named streams.old leaves.old (part_names l centre))) }
     ensures left { OnOk result (writer.new.progress.left ≡ writer.old.progress.left) }
     ensures begun { OnOk result (ForSome (S.held store.new) (appended.Stands writer.new.tail)) }
@@ -96,7 +96,16 @@ fn put_block<B: Blob, S: Blob>(
     ensures stops { IfErr result (λ fault. Stops fault (S.faults store.old) (S.faults store.new) (S.held store.new)) }
 {
     let n = fine_count(streams, leaves, centre, l);
-    let hull = write_all(streams, work, leaves, writer, store, centre, l, cell_at(centre))?;
+    let hull = write_all(
+        streams,
+        work,
+        leaves,
+        writer,
+        store,
+        centre,
+        l,
+        cell_at(centre),
+    )?;
     let own = coarse(streams, work, leaves, bench, writer, store, centre, l, n)?;
     end_all(streams, work, leaves, centre, l)?;
     Ok(Measured { own, hull })

@@ -129,7 +129,15 @@ pub(crate) fn write_all<B: Blob, S: Blob>(
     let n = part_count(centre, l);
     let mut cell = from;
     'parts: for k in 0..n {
-        cell = write_named(streams, work, leaves, writer, store, part_at(centre, k, l), cell)?;
+        cell = write_named(
+            streams,
+            work,
+            leaves,
+            writer,
+            store,
+            part_at(centre, k, l),
+            cell,
+        )?;
     }
     Ok(cell)
 }

@@ -1,5 +1,5 @@
 -- Nothing is done, then all records, then the rest.
-use Rattle.std.proofs.Common.{◌≡◌, ◌≤◌, ◌+◌, ◌*◌, ◌∙◌, length, refl, sym, ap, subst, inl, inr, arith}
+use Rattle.std.proofs.Common.{◌+◌, ◌*◌, ◌∙◌, length, sym, ap, subst, inl, inr, arith}
 use Rattle.std.proofs.lemmas.Result.{err_from_is_err_and}
 use Rattle.tpz_io.specs.Told.{followed_by}
 use Rattle.diamond_graph.specs.Graphs.{centres}

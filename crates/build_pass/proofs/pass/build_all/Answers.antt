@@ -1,5 +1,5 @@
 -- One record more is built.
-use Rattle.std.proofs.Common.{◌≡◌, ◌≤◌, ◌+◌, ◌-◌, ◌∙◌, ℕ, suc, length, refl, sym, subst, arith}
+use Rattle.std.proofs.Common.{◌≡◌, ◌-◌, ◌∙◌, suc, refl, sym, subst, arith}
 use Rattle.build_pass.specs.Passes.{Done, Going}
 use Rattle.build_pass.proofs.Writing.{keeps_store}
 use Rattle.build_pass.proofs.pass.build_all.Goals as goal

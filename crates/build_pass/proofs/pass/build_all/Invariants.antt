@@ -2,7 +2,7 @@
 use Rattle.std.proofs.Common.{◌≡◌, ◌≤◌, length}
 use Rattle.std.specs.Option.{ForSome}
 use Rattle.tpz_base.specs.Meshes.{Mesh}
-use Rattle.tri_stream.specs.Streams.{Stands, Stays}
+use Rattle.tri_stream.specs.Streams.{Stays}
 use Rattle.patch_file.specs.Appended as appended
 use Rattle.patch_file.specs.declared.shape.Params.{Params}
 use Rattle.build_pass.specs.Passes.{Done, Going}

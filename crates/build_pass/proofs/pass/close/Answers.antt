@@ -1,5 +1,5 @@
 -- The base stands behind the records, and the header before them.
-use Rattle.std.proofs.Common.{◌≡◌, ◌≤◌, ◌+◌, ◌*◌, ◌∙◌, length, sym, ap, subst, inl, arith}
+use Rattle.std.proofs.Common.{◌*◌, sym, ap, subst, inl, arith}
 use Rattle.std.proofs.lemmas.Result.{err_from_is_err_and}
 use Rattle.tri_stream.specs.Streams.{total}
 use Rattle.patch_file.specs.Appended as appended

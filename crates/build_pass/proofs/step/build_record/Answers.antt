@@ -1,13 +1,11 @@
 -- One record more is built.
-use Rattle.std.proofs.Common.{◌≡◌, ◌≤◌, ◌<◌, ◌+◌, ◌*◌, ◌∙◌, Some, List, ℕ, length, map, refl, sym, ap, subst, suc, arith}
+use Rattle.std.proofs.Common.{◌≡◌, ◌∙◌, Some, ℕ, length, map, sym, ap, subst, arith}
 use Rattle.std.specs.Prelude.{slice_get}
 use Rattle.std.specs.List.{slice_set}
 use Rattle.std.specs.Option.{ForSome}
 use Rattle.tpz_base.specs.declared.shape.Point.{Point}
-use Rattle.tpz_base.specs.Diamonds.{level_of}
 use Rattle.tpz_base.proofs.Diamonds.{IsSplittable}
 use Rattle.tetra_name.specs.Names.{point_of}
-use Rattle.diamond_graph.specs.declared.record.Record.{Record}
 use Rattle.diamond_graph.specs.Closed.{CanSplit}
 use Rattle.diamond_graph.specs.Graphs.{centre_of, centres, fresh_record, GraphState, IsGraph}
 use Rattle.diamond_graph.specs.Saturated.{kid_records}
@@ -113,10 +111,9 @@ returns-clause-done g c = λ M params l_is budget_is done.
     let some = c.requires.left in
     let same_left = e.left in
     let block : ForSome h0 (λ bytes. (w.0 ≡ map (list_named s0 bytes m0) (part_names params.l d)) × (w.1 ≡ moves_in params.budget (lists_named s0 bytes m0 (part_names params.l d)))
-        × (own ≡ greatest_length w.1) × (hull ≡ hull_of (fresh_record (point_of d)).cell (lists_named s0 bytes m0 (part_names params.l d)))) =
+    × (own ≡ greatest_length w.1) × (hull ≡ hull_of (fresh_record (point_of d)).cell (lists_named s0 bytes m0 (part_names params.l d)))) =
     λ bytes is.
-    let f = w.4 bytes is in
-    (
+    let f = w.4 bytes is in (
       f.0 ∙ ap (λ L. map (list_named s0 bytes m0) (part_names L d)) to_l,
       f.1 ∙ ap (λ L. moves_in b.shop.budget (lists_named s0 bytes m0 (part_names L d))) to_l ∙ ap (λ k. moves_in k (lists_named s0 bytes m0 (part_names params.l d))) to_budget,
       f.2,

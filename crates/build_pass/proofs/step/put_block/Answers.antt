@@ -1,5 +1,5 @@
 -- The parts of a block, one behind another.
-use Rattle.std.proofs.Common.{◌≡◌, ◌≤◌, ◌<◌, ◌+◌, ◌*◌, ◌^◌, ◌++◌, ◌∙◌, ℕ, List, length, map, refl, sym, ap, subst, arith}
+use Rattle.std.proofs.Common.{◌≡◌, ◌+◌, ◌*◌, ◌^◌, ◌++◌, ◌∙◌, length, sym, ap, subst, arith}
 use Rattle.std.specs.Prelude.{flat_map, IsTrue}
 use Rattle.std.proofs.lemmas.Result.{err_from_is_err_and}
 use Rattle.tpz_base.specs.declared.shape.Cell.{Cell}
@@ -13,7 +13,7 @@ use Rattle.patch_file.specs.Appended.{content}
 use Rattle.patch_file.specs.Bytes.{counted, move_bytes, patch_bytes}
 use Rattle.patch_file.specs.Writing.{further}
 use Rattle.build_pass.specs.Building.{reduced}
-use Rattle.build_pass.specs.Keyed.{list_named, lists_named, part_names, sizes_named}
+use Rattle.build_pass.specs.Keyed.{list_named, lists_named, part_names}
 use Rattle.build_pass.specs.Passes.{peak_with}
 use Rattle.build_pass.specs.Writes.{hull_of, joined, moves_in}
 use Rattle.build_pass.proofs.Coarsening.{held_right}
@@ -76,24 +76,22 @@ returns-clause-written g c =
     let before = content start.tail (told c.args.store.now) in
     let budget = c.args.bench.now.shop.budget in
     let first = 4 * length Ns + 36 * length (joined Ns) in
-    let second = 4 + 24 * length ms in
-    (
+    let second = 4 + 24 * length ms in (
       Ns,
       ms,
       v.1.content ∙ ap (λ o. followed_by o (counted move_bytes ms)) w.1.content ∙ followed_twice before (flat_map patch_bytes Ns) (counted move_bytes ms),
       v.1.progress ∙ ap (λ p. further p second) w.1.progress ∙ further_twice start.progress first second
-      ∙ further_as start.progress (first + second) (length (flat_map patch_bytes Ns ++ counted move_bytes ms)) (length_block Ns ms),
+          ∙ further_as start.progress (first + second) (length (flat_map patch_bytes Ns ++ counted move_bytes ms)) (length_block Ns ms),
       λ bytes is.
-      let now = still_told h0 h1 bytes (all_alike s0 s1 h0 h1 c.in_ok-hull.ensures.all) is in
-      let lists = lists_all_read s0 s1 h0 h1 m names bytes now.0 c.in_ok-hull.ensures.all is now.1 in
-      let patches = w.4 bytes is in
-      let fine : joined Ns ≡ lists_named s0 bytes m names = ap joined patches ∙ joined_map (list_named s0 bytes m) names in
-      (
-        patches,
-        v.4 now.0 now.1 ∙ ap (moves_in budget) lists,
-        v.2,
-        w.1.hull ∙ ap (λ (x : Cell). hull_of x (joined Ns)) c.cell_at.ensures ∙ ap (hull_of (fresh_record (point_of c.args.centre)).cell) fine,
-      ),
+          let now = still_told h0 h1 bytes (all_alike s0 s1 h0 h1 c.in_ok-hull.ensures.all) is in
+          let lists = lists_all_read s0 s1 h0 h1 m names bytes now.0 c.in_ok-hull.ensures.all is now.1 in
+          let patches = w.4 bytes is in
+          let fine : joined Ns ≡ lists_named s0 bytes m names = ap joined patches ∙ joined_map (list_named s0 bytes m) names in (
+            patches,
+            v.4 now.0 now.1 ∙ ap (moves_in budget) lists,
+            v.2,
+            w.1.hull ∙ ap (λ (x : Cell). hull_of x (joined Ns)) c.cell_at.ensures ∙ ap (hull_of (fresh_record (point_of c.args.centre)).cell) fine,
+          ),
     )
 
 pub returns-clause-size : goal.returns-clause-size
