@@ -11,7 +11,11 @@ use tetra_name::Tet;
 use tri_stream::{StreamId, Streams};
 
 /// The stream of a name. Where it has none, a new one without triangles becomes its stream; the stream that it had must be live.
-pub fn stream_of(streams: &mut Streams, leaves: &mut Leaves, leaf: Tet) -> Result<StreamId, AllocError>
+pub fn stream_of(
+    streams: &mut Streams,
+    leaves: &mut Leaves,
+    leaf: Tet,
+) -> Result<StreamId, AllocError>
     requires { (id : StreamId) → map.get leaves.old leaf ≡ Some id → IsLive streams.old id }
     ensures stream { IfOk result (λ id. Names leaf id leaves.old leaves.new streams.old streams.new) }
     ensures base { streams.new.base ≡ streams.old.base }

@@ -8,6 +8,8 @@ mod opening;
 mod shape;
 mod tail;
 mod writer;
+#[cfg(test)]
+mod writer_tests;
 
 pub use law::{store_law, writing_law};
 pub use shape::{Params, StoreBad};

@@ -1,16 +1,15 @@
 -- A record that is raised is right in its graph, and saturated there.
-use Rattle.std.proofs.Common.{None, ◌≡◌, ℕ, zero, suc, ◌+◌, ◌-◌, ◌*◌, ◌<◌, ◌≤◌, ◌^◌, Bool, true, false, ◌&&◌, Option, Some, List, [], ◌∷◌, ◌++◌, map, max, min, take, set, length, get_or, fold, refl, sym, ◌∙◌, ap, ap₂, subst, inl, inr, arith, slice_get}
-use Rattle.std.specs.Prelude.{All, flat_map, option_map, IfSome, IsTrue, ◌==◌}
+use Rattle.std.proofs.Common.{None, ◌≡◌, ℕ, zero, suc, ◌+◌, ◌-◌, ◌*◌, ◌<◌, ◌≤◌, ◌^◌, true, false, ◌&&◌, Some, List, [], ◌∷◌, ◌++◌, map, take, set, length, fold, refl, sym, ◌∙◌, ap, ap₂, subst, inl, inr, arith, slice_get}
+use Rattle.std.specs.Prelude.{flat_map, option_map, IfSome, IsTrue, ◌==◌}
 use Rattle.std.specs.Option.{ForSome}
 use Rattle.std.specs.List.{list_all, IsDistinct}
 use Rattle.std.proofs.lemmas.Bool.{cases_Bool, and_parts, and_from, leb-true, le-leb, eq-eqb}
-use Rattle.std.proofs.lemmas.List.{length-set}
 use Rattle.std.proofs.lemmas.List.Sums.{fold-append}
 use Rattle.std.proofs.lemmas.Option.{get_or_from_slice_get, slice_get_within, slice_get_cases, slice_get-map, same_Some}
 use Rattle.tpz_base.specs.declared.shape.Point.{Point}
 use Rattle.tpz_base.specs.declared.shape.Cell.{Cell}
 use Rattle.tpz_base.specs.Points.{point_eq}
-use Rattle.tpz_base.specs.Boxes.{hull, hull_point}
+use Rattle.tpz_base.specs.Boxes.{hull}
 use Rattle.tpz_base.specs.Lists.{in_order}
 use Rattle.tpz_base.specs.Tetrahedra.{kids}
 use Rattle.tpz_base.specs.Diamonds.{level_of, record_lt}
@@ -29,7 +28,7 @@ use Rattle.diamond_graph.specs.Saturated.{holds, holds_cell, records_at, kid_rec
 use Rattle.diamond_graph.proofs.SetLaw.{in_order-ascends}
 use Rattle.diamond_graph.proofs.CentreFacts.{member_all, splittable, get_member}
 use Rattle.diamond_graph.proofs.FaultLaw.{all_distinct, greatest_within, kid_record, kids_more}
-use Rattle.saturate.specs.Raised.{hull_with, hull_of_all, counted_with, raised, looked_at}
+use Rattle.saturate.specs.Raised.{hull_of_all, counted_with, raised, looked_at}
 
 -- the records of a graph have different centres
 pub distinct_centres : (g : GraphState) → IsGraph g → IsDistinct point_eq (map centre_of g.records)
