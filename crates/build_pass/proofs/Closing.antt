@@ -1,6 +1,6 @@
 -- The base behind the records.
-use Rattle.std.proofs.Common.{◌≡◌, ◌+◌, ◌*◌, ◌≤◌, ◌<◌, [], ◌∷◌, ◌++◌, Some, None, Option, Result, Err, ℕ, zero, suc, List, map, length, drop, refl, sym, ◌∙◌, ap, subst, arith}
-use Rattle.std.specs.Prelude.{flat_map, sum_by, OnErr}
+use Rattle.std.proofs.Common.{◌≡◌, ◌+◌, ◌*◌, ◌≤◌, [], ◌∷◌, Some, None, Option, Result, Err, ℕ, zero, suc, List, map, length, drop, refl, sym, ◌∙◌, ap, subst, arith, ◌⊎◌, inl, inr}
+use Rattle.std.specs.Prelude.{flat_map, OnErr, is_some}
 use Rattle.std.specs.Option.{ForSome, option_map, unwrap_or}
 use Rattle.std.specs.FinMap.{get}
 use Rattle.std.proofs.lemmas.List.Sums.{sum_by-cons}
@@ -15,10 +15,12 @@ use Rattle.diamond_graph.specs.declared.record.Record.{Record}
 use Rattle.assign.specs.Names.{LeafTable}
 use Rattle.assign.specs.Splits.{split_set}
 use Rattle.patch_file.specs.declared.shape.Params.{Params}
-use Rattle.patch_file.specs.Bytes.{base_offset, patch_bytes, Bytes}
-use Rattle.patch_file.specs.Writing.{at_base, WriterState}
+use Rattle.patch_file.specs.Appended.{content, IsNotOpen}
+use Rattle.patch_file.specs.Bytes.{base_offset, bytes_of, patch_bytes, Bytes}
+use Rattle.patch_file.specs.Tables.{Table, TableRecord}
+use Rattle.patch_file.specs.Writing.{at_base, WriterState, with_header}
 use Rattle.patch_file.specs.Written.{HasWritten}
-use Rattle.patch_file.proofs.WritingLaw.{written_base, written_more}
+use Rattle.patch_file.proofs.WritingLaw.{written_base, written_more, left_or_whole}
 use Rattle.build_pass.specs.Building.{built_patch, table}
 use Rattle.build_pass.specs.Keyed.{list_named, size_named, sizes_named}
 use Rattle.build_pass.specs.Passes.{Done}
@@ -80,3 +82,28 @@ closed_base M params L s leaves work rs peak w0 w1 w2 t0 t1 Ns from cell l_is d 
           (p.progress ∙ further_as w1.progress (4 * length Ns + 36 * length (joined Ns)) (length (flat_map patch_bytes Ns)) (sym (length_patches Ns))) p.content,
       ap (λ q. q.base_start) p.progress ∙ ap (λ (w : WriterState). w.progress.base_start) start ∙ base_begins M params w0 t0 d.written,
     )
+
+-- what was written behind records of any kind is a table, once the header stands
+abbrev pub some_table : Params → List TableRecord → List Mesh → Table
+some_table params rs Ns = record { l = params.l; digits = params.digits; low = params.low; records = rs; base = Ns }
+
+pub closed_some : (params : Params) (n L : ℕ) (rs : List TableRecord) (w0 w1 w2 : WriterState) (t0 t1 new : Option Bytes) (Ns : List Mesh) (from cell : Cell)
+    → HasWritten n rs [] w0 t0 → w0.progress.left ≡ 0 → w1 ≡ at_base w0 → WritesPatches L Ns from cell w1 w2 t0 t1 → is_some new ≡ is_some t1
+    → ForSome new (λ bytes. IsNotOpen bytes ⊎ ForSome (content w2.tail t1) (λ before. bytes ≡ with_header params w2.progress before))
+    → ForSome new (λ bytes. IsNotOpen bytes ⊎ ((tb : Table) × (bytes ≡ bytes_of tb params)))
+closed_some params n L rs w0 w1 w2 t0 t1 new Ns from cell h none start p same left =
+    let tb = some_table params rs Ns in
+    let first : HasWritten n rs [] w1 t0 = subst (λ w. HasWritten n rs [] w t0) (sym start) (written_base n rs [] w0 t0 h) in
+    let second : HasWritten n rs (flat_map patch_bytes Ns) w2 t1 =
+    written_more n rs [] (flat_map patch_bytes Ns) w1 w2 t0 t1 first
+    (p.progress ∙ further_as w1.progress (4 * length Ns + 36 * length (joined Ns)) (length (flat_map patch_bytes Ns)) (sym (length_patches Ns))) p.content
+    in
+    let parts = h.left in
+    let count : n ≡ length rs = omega arith in
+    let block = h.block in
+    let end = h.end in
+    let whole = subst (λ k. HasWritten k rs (flat_map patch_bytes Ns) w2 t1) count second in
+    let base : w2.progress.base_start ≡ base_offset tb =
+    ap (λ q. q.base_start) p.progress ∙ ap (λ (w : WriterState). w.progress.base_start) start ∙ omega arith
+    in
+    λ bytes is. elim (left_or_whole tb params w2 t1 new whole base same left bytes is) [ inl shut ↦ inl shut | inr all ↦ inr (tb, all) ]

@@ -1,6 +1,6 @@
 -- The streams of the members' children end one after another.
-use Rattle.std.proofs.Common.{◌≡◌, ◌≢◌, ◌⊎◌, ◌<◌, ◌≤◌, ◌+◌, ◌*◌, ◌++◌, ◌∷◌, [], Some, None, Option, ℕ, zero, suc, List, map, length, refl, sym, ◌∙◌, ap, subst, inl, inr, arith, add-mul}
-use Rattle.std.specs.Prelude.{slice_get, take, sum_by, Contains}
+use Rattle.std.proofs.Common.{◌≡◌, ◌≢◌, ◌+◌, ◌*◌, ◌∷◌, [], Some, None, Option, ℕ, zero, suc, List, map, refl, sym, ◌∙◌, ap, subst, inl, inr, arith, add-mul}
+use Rattle.std.specs.Prelude.{slice_get, take, Contains}
 use Rattle.std.specs.FinMap.{get}
 use Rattle.tpz_base.specs.declared.shape.Point.{Point}
 use Rattle.tpz_base.specs.Tetrahedra.{Tetrahedron, descendants, parts}
@@ -13,12 +13,12 @@ use Rattle.tetra_name.specs.declared.shape.Tet.{Tet}
 use Rattle.tetra_name.specs.Names.{point_of, tetrahedron_of}
 use Rattle.tetra_name.proofs.NameFacts.{contains-member}
 use Rattle.tetra_name.proofs.OneName.{get_member}
-use Rattle.tri_stream.specs.Streams.{StreamsState, size_of}
+use Rattle.tri_stream.specs.Streams.{StreamsState}
 use Rattle.tri_stream.specs.declared.names.StreamId.{StreamId}
 use Rattle.tri_stream.proofs.Changes.{same_size}
 use Rattle.assign.specs.Names.{LeafTable}
 use Rattle.assign.proofs.NameTables.{same_tet}
-use Rattle.build_pass.specs.Keyed.{level_named, name_of, part_names, size_named, sizes_named, Drops, DropsAll, IsKeyed, Weighs}
+use Rattle.build_pass.specs.Keyed.{level_named, name_of, part_names, size_named, sizes_named, Drops, DropsAll, IsKeyed}
 use Rattle.build_pass.proofs.CutSteps.{parts_once}
 use Rattle.build_pass.proofs.Parts.{among_before, among_here, among_next, sum_next}
 use Rattle.build_pass.proofs.PartNames.{name_of-stands}

@@ -1,22 +1,20 @@
 -- The names of a diamond's members' children.
-use Rattle.std.proofs.Common.{◌≡◌, ◌≢◌, ◌<◌, ◌≤◌, ◌+◌, ◌*◌, ◌/◌, ◌%◌, ◌^◌, ◌++◌, ◌∷◌, [], Some, None, Option, ℕ, zero, suc, List, map, length, refl, sym, ◌∙◌, ap, subst, inl, inr, true, arith}
-use Rattle.std.specs.Prelude.{slice_get, flat_map, IsSome}
-use Rattle.std.specs.List.{find, position_or_len}
+use Rattle.std.proofs.Common.{◌≡◌, ◌<◌, ◌≤◌, ◌+◌, ◌*◌, ◌/◌, ◌%◌, ◌^◌, ◌∷◌, [], Some, ℕ, zero, suc, List, length, refl, sym, ◌∙◌, ap, inl, inr, arith}
+use Rattle.std.specs.Prelude.{slice_get, flat_map}
 use Rattle.std.specs.Option.{option_map}
 use Rattle.std.proofs.lemmas.List.{length-map}
 use Rattle.std.proofs.lemmas.List.Folds.{find_at}
-use Rattle.std.proofs.lemmas.Option.{slice_get-map, slice_get_cases, slice_get_within}
+use Rattle.std.proofs.lemmas.Option.{slice_get-map, slice_get_cases}
 use Rattle.std.proofs.lemmas.Bool.{cases_eq}
 use Rattle.tpz_base.specs.Tetrahedra.{Tetrahedron, child_0, child_1, children, descendants, diamond, members, parts, tetrahedron_eq}
-use Rattle.tpz_base.specs.Diamonds.{level_of}
 use Rattle.tpz_base.proofs.CutLaw.{Member}
 use Rattle.tpz_base.proofs.Diamonds.{find_first}
 use Rattle.tpz_base.proofs.Members.{named_member, tetrahedron_eq-true, tetrahedron_eq_refl}
 use Rattle.tetra_name.specs.declared.shape.Half.{Half}
 use Rattle.tetra_name.specs.declared.shape.Tet.{Tet}
-use Rattle.tetra_name.specs.Names.{half_of, point_of, tetrahedron_of, child_of, IsName, NamesEach}
+use Rattle.tetra_name.specs.Names.{point_of, tetrahedron_of, child_of, IsName}
 use Rattle.tetra_name.proofs.EveryName.{names_each}
-use Rattle.tetra_name.proofs.NameFacts.{child_of-some, some_is, some_of, contains-member}
+use Rattle.tetra_name.proofs.NameFacts.{some_is, contains-member}
 use Rattle.build_pass.specs.Keyed.{name_of, part_names}
 
 -- the name of a tetrahedron stands for it

@@ -1,5 +1,5 @@
 -- Steps over the names of the members' children.
-use Rattle.std.proofs.Common.{◌≡◌, ◌≢◌, ◌⊎◌, ◌<◌, ◌≤◌, ◌+◌, ◌*◌, ◌^◌, ◌++◌, ◌∷◌, [], Some, None, Option, Result, Ok, Err, ℕ, zero, suc, List, map, length, length-append, get_or, refl, sym, ◌∙◌, ap, ap₂, subst, inl, inr, arith, append-nil}
+use Rattle.std.proofs.Common.{◌≡◌, ◌≢◌, ◌⊎◌, ◌<◌, ◌≤◌, ◌+◌, ◌++◌, ◌∷◌, [], Some, None, Option, Result, Ok, Err, ℕ, zero, suc, List, map, length, length-append, get_or, refl, sym, ◌∙◌, ap, subst, inl, inr, arith, append-nil}
 use Rattle.std.specs.Prelude.{slice_get, take, flat_map, sum_by, Contains, IfOk}
 use Rattle.std.specs.Option.{option_map, unwrap_or}
 use Rattle.std.specs.FinMap.{get}
@@ -8,18 +8,17 @@ use Rattle.std.proofs.lemmas.List.Elements.{Contains-append_cases, Contains-appe
 use Rattle.std.proofs.lemmas.List.Sums.{sum_by-cons, sum_by_more}
 use Rattle.std.proofs.lemmas.Grind.{flat_map-append}
 use Rattle.std.proofs.lemmas.Option.{get_or_from_slice_get, slice_get_within}
-use Rattle.tpz_base.specs.declared.shape.Tri.{Tri}
 use Rattle.tpz_base.specs.Meshes.{Mesh}
 use Rattle.tetra_name.specs.declared.shape.Half.{Half}
 use Rattle.tetra_name.specs.declared.shape.Tet.{Tet}
 use Rattle.tri_stream.specs.Lists.{list_at}
 use Rattle.tri_stream.specs.declared.names.StreamId.{StreamId}
-use Rattle.tri_stream.specs.Streams.{StreamsState, count_of, list_of, size_of, told_list, total, LeavesAll}
+use Rattle.tri_stream.specs.Streams.{StreamsState, count_of, list_of, size_of, told_list, LeavesAll}
 use Rattle.assign.specs.Names.{LeafTable}
 use Rattle.tpz_base.specs.Diamonds.{level_of}
 use Rattle.tetra_name.specs.Names.{point_of}
 use Rattle.tri_stream.proofs.Changes.{same_size}
-use Rattle.build_pass.specs.Keyed.{level_named, list_named, lists_named, size_named, sizes_named, told_named, IsKeyed, Shares}
+use Rattle.build_pass.specs.Keyed.{level_named, list_named, lists_named, size_named, sizes_named, told_named, Shares}
 use Rattle.build_pass.proofs.Tables.{size_none, size_some, Alike}
 
 -- the first k + 1 of a list

@@ -1,7 +1,7 @@
 -- Patches that are written one after another.
-use Rattle.std.proofs.Common.{◌≡◌, ◌<◌, ◌≤◌, ◌+◌, ◌*◌, ◌++◌, ◌∷◌, [], Some, None, Option, Result, Err, ℕ, Bool, List, map, length, length-append, refl, sym, ◌∙◌, ap, ap₂, subst, arith, append_assoc, append-nil, add_assoc}
-use Rattle.std.specs.Prelude.{All, flat_map, fold, is_some, IfErr}
-use Rattle.std.specs.Option.{ForSome, option_map}
+use Rattle.std.proofs.Common.{◌≡◌, ◌+◌, ◌*◌, ◌++◌, ◌∷◌, [], Some, None, Option, Result, Err, ℕ, Bool, List, map, length, length-append, refl, sym, ◌∙◌, ap, subst, arith, append_assoc, append-nil, add_assoc}
+use Rattle.std.specs.Prelude.{All, flat_map, fold, IfErr}
+use Rattle.std.specs.Option.{ForSome}
 use Rattle.std.proofs.lemmas.Grind.{flat_map-append}
 use Rattle.std.proofs.lemmas.List.Elements.{All-append, All-push}
 use Rattle.std.proofs.lemmas.List.Sums.{fold-append}
@@ -10,10 +10,9 @@ use Rattle.tpz_base.specs.declared.shape.Move.{Move}
 use Rattle.tpz_base.specs.declared.shape.Tri.{Tri}
 use Rattle.tpz_base.specs.Boxes.{hull_point}
 use Rattle.tpz_base.specs.Meshes.{Mesh, corners_of}
-use Rattle.tpz_io.specs.Causes.{Rose}
 use Rattle.tpz_io.specs.Told.{followed_by}
 use Rattle.tri_stream.specs.Lists.{IsHeld}
-use Rattle.patch_file.specs.Appended.{content, Appended, IsClosed, Stands}
+use Rattle.patch_file.specs.Appended.{content, Appended, Stands}
 use Rattle.patch_file.specs.Bytes.{Bytes, counted, move_bytes, patch_bytes, tri_bytes, word_32}
 use Rattle.patch_file.specs.Writing.{further, Progress, WriterState}
 use Rattle.build_pass.specs.declared.fault.BuildFault.{BuildFault}

@@ -3,7 +3,6 @@ use Rattle.std.specs.Prelude.{◌≡◌, ◌≤◌, ◌+◌, ◌*◌, ◌++◌, 
 use Rattle.std.specs.Option.{ForSome}
 use Rattle.tpz_base.specs.declared.shape.Cell.{Cell}
 use Rattle.tpz_base.specs.declared.shape.Move.{Move}
-use Rattle.tpz_base.specs.declared.shape.Tri.{Tri}
 use Rattle.tpz_base.specs.Boxes.{hull_point}
 use Rattle.tpz_base.specs.Meshes.{Mesh, corners_of}
 use Rattle.tpz_base.specs.Collapses.{moves_of}

@@ -12,7 +12,9 @@ ghost use Rattle.assign.specs.Standing.{HoldsPatches, NamesStreams};
 ghost use Rattle.patch_file.specs.Appended as appended;
 ghost use Rattle.patch_file.specs.Appended.{IsNotOpen};
 ghost use Rattle.patch_file.specs.Writing.{claimed};
-ghost use Rattle.patch_file.specs.Written.{ReadsUnfinished};
+ghost use Rattle.patch_file.specs.Bytes.{bytes_of};
+ghost use Rattle.patch_file.specs.Tables.{Table, TableRecord};
+ghost use Rattle.patch_file.specs.Written.{HasWritten, ReadsUnfinished};
 ghost use Rattle.build_pass.specs.declared.fault.BuildFault.{BuildFault};
 ghost use Rattle.build_pass.specs.Building.{greatest_fine, store_of};
 ghost use Rattle.build_pass.specs.Keyed.{IsKeyed};
@@ -56,6 +58,7 @@ fn build_all<B: Blob, S: Blob>(
     ensures done { OnOk result ((M : Mesh) (params : Params) → params.l ≡ graph.old.l → params.budget ≡ bench.old.shop.budget
         → Done M params (length graph.old.records) graph.old.records leaves.old streams.old (B.held work.old) writer.old (S.held store.old) bench.old.shop.peak
         → Done M params 0 graph.new.records leaves.new streams.new (B.held work.new) writer.new (S.held store.new) bench.new.shop.peak) }
+    ensures wrote { OnOk result ((n : ℕ) (rs : List TableRecord) → HasWritten n rs [] writer.old (S.held store.old) → (all : List TableRecord) × HasWritten n all [] writer.new (S.held store.new)) }
     ensures stays { Stays streams.old streams.new (B.held work.new) }
     ensures later { B.faults work.old ≤ B.faults work.new }
     ensures store { KeepsStore (S.faults store.old) (S.faults store.new) (S.reads store.old) (S.reads store.new) (S.outcomes store.old) (S.outcomes store.new) (S.held store.old) (S.held store.new) }
@@ -92,6 +95,8 @@ fn close<B: Blob, S: Blob>(
     ensures refused { OnErr result ((M : Mesh) (rs : List Record) (peak : ℕ) → params.now.l ≡ l
         → Done M params.now 0 rs leaves.now streams.old (B.held work.old) writer (S.held store.old) peak
         → ForSome (S.held store.new) (λ bytes. IsNotOpen bytes ⊎ (bytes ≡ store_of M params.now))) }
+    ensures left { OnErr result ((n : ℕ) (rs : List TableRecord) → HasWritten n rs [] writer (S.held store.old)
+        → ForSome (S.held store.new) (λ bytes. IsNotOpen bytes ⊎ ((tb : Table) × (bytes ≡ bytes_of tb params.now)))) }
     ensures cause { result ≡ Err BuildFault.StoreFault → Rose (S.faults store.old) (S.faults store.new) }
     ensures stays { Stays streams.old streams.new (B.held work.new) }
     ensures later { B.faults work.old ≤ B.faults work.new }
@@ -139,6 +144,7 @@ pub fn build<W: Blob, S: Blob>(
     // Whether they are told or not:
     ensures records { IfOk result (λ built. built.records ≡ length (centres split.graph)) }
     ensures bench { IfOk result (λ built. built.peak ≡ bench.new.shop.peak) }
+    ensures left { OnErr result (ForSome (S.held store.new) (λ held. ReadsUnfinished held ⊎ ((tb : Table) × (held ≡ bytes_of tb params)))) }
     ensures cause { result ≡ Err BuildFault.StoreFault → Rose (S.faults store.old) (S.faults store.new) }
     ensures store { KeepsStore (S.faults store.old) (S.faults store.new) (S.reads store.old) (S.reads store.new) (S.outcomes store.old) (S.outcomes store.new) (S.held store.old) (S.held store.new) }
     ensures later { W.faults work.old ≤ W.faults work.new }

@@ -1,5 +1,5 @@
 -- Nothing is done, then all records, then the rest.
-use Rattle.std.proofs.Common.{◌≡◌, ◌≤◌, ◌+◌, ◌*◌, ◌∙◌, length, refl, sym, ap, subst, inl, inr, arith}
+use Rattle.std.proofs.Common.{◌+◌, ◌*◌, ◌∙◌, length, sym, ap, subst, inl, inr, arith, []}
 use Rattle.std.proofs.lemmas.Result.{err_from_is_err_and}
 use Rattle.tpz_io.specs.Told.{followed_by}
 use Rattle.diamond_graph.specs.Graphs.{centres}
@@ -10,6 +10,7 @@ use Rattle.patch_mesh.specs.Shops.{Shop}
 use Rattle.patch_file.specs.Appended.{beginning}
 use Rattle.patch_file.specs.Writing.{begun}
 use Rattle.patch_file.proofs.Unfinished.{reads_brief, reads_closed, reads_not_open}
+use Rattle.patch_file.proofs.WritingLaw.{written_none}
 use Rattle.build_pass.proofs.Closing.{on_err}
 use Rattle.build_pass.proofs.Starting.{done_start, going_start}
 use Rattle.build_pass.proofs.pass.build.Goals as goal
@@ -109,6 +110,29 @@ returns-in_err-close-clause-refused g c =
     in
     let d1 = c.in_ok-build_all.ensures.done M params (c.requires.l ∙ sym c.requires.graph) (sym (ap (λ (x : BenchState). x.shop.budget) c.requires.bench)) d0 in
     elim (c.in_err-close.ensures.refused M c.build_all.new.graph.records c.build_all.new.bench.shop.peak (c.requires.l ∙ sym c.requires.graph ∙ sym c.l-l.ensures.l) d1 held at) [
+      | inl shut ↦ inl (reads_not_open held shut)
+      | inr whole ↦ inr whole
+    ])
+
+pub returns-in_err-begin-clause-left : goal.returns-in_err-begin-clause-left
+returns-in_err-begin-clause-left g c =
+    let p = err_from_is_err_and c.from_residual.result c.from_residual.ensures.1 in
+    on_err c.from_residual.result p.0 p.1 (λ held at. inl (reads_brief held (c.in_err-begin.ensures.brief held at)))
+
+pub returns-in_err-build_all-clause-left : goal.returns-in_err-build_all-clause-left
+returns-in_err-build_all-clause-left g c =
+    let p = err_from_is_err_and c.from_residual-in_err-build_all.result c.from_residual-in_err-build_all.ensures.1 in
+    on_err c.from_residual-in_err-build_all.result p.0 p.1 (λ held at. inl (reads_closed held (c.in_err-build_all.ensures.stops.closed held at)))
+
+pub returns-in_err-close-clause-left : goal.returns-in_err-close-clause-left
+returns-in_err-close-clause-left g c =
+    let p = err_from_is_err_and c.from_residual-in_err-close.result c.from_residual-in_err-close.ensures.1 in
+    let told = g.S.Blob.held in
+    let n = c.len-records.result in
+    let start = written_none n c.begin.new.self (told c.args.store.now) (told c.begin.new.store) c.in_ok-begin.ensures.progress c.requires.empty c.in_ok-begin.ensures.content in
+    let all = c.in_ok-build_all.ensures.wrote n [] start in
+    on_err c.from_residual-in_err-close.result p.0 p.1 (λ held at.
+    elim (c.in_err-close.ensures.left n all.0 all.1 held at) [
       | inl shut ↦ inl (reads_not_open held shut)
       | inr whole ↦ inr whole
     ])

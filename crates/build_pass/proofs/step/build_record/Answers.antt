@@ -1,13 +1,11 @@
 -- One record more is built.
-use Rattle.std.proofs.Common.{◌≡◌, ◌≤◌, ◌<◌, ◌+◌, ◌*◌, ◌∙◌, Some, List, ℕ, length, map, refl, sym, ap, subst, suc, arith}
-use Rattle.std.specs.Prelude.{slice_get}
+use Rattle.std.proofs.Common.{◌≡◌, ◌∙◌, Some, ℕ, length, map, sym, ap, subst, arith, ◌<◌, ◌++◌, [], Ok}
+use Rattle.std.specs.Prelude.{flat_map, slice_get}
 use Rattle.std.specs.List.{slice_set}
 use Rattle.std.specs.Option.{ForSome}
 use Rattle.tpz_base.specs.declared.shape.Point.{Point}
-use Rattle.tpz_base.specs.Diamonds.{level_of}
 use Rattle.tpz_base.proofs.Diamonds.{IsSplittable}
 use Rattle.tetra_name.specs.Names.{point_of}
-use Rattle.diamond_graph.specs.declared.record.Record.{Record}
 use Rattle.diamond_graph.specs.Closed.{CanSplit}
 use Rattle.diamond_graph.specs.Graphs.{centre_of, centres, fresh_record, GraphState, IsGraph}
 use Rattle.diamond_graph.specs.Saturated.{kid_records}
@@ -16,6 +14,9 @@ use Rattle.saturate.specs.Raised.{greatest_length, raised}
 use Rattle.build_pass.specs.Keyed.{list_named, lists_named, part_names, sizes_named, AllNames}
 use Rattle.build_pass.specs.Passes.{peak_with, Going, Moved}
 use Rattle.build_pass.specs.Writes.{hull_of, moves_in}
+use Rattle.patch_file.specs.Bytes.{counted, move_bytes, patch_bytes}
+use Rattle.patch_file.specs.Tables.{TableRecord}
+use Rattle.patch_file.proofs.WritingLaw.{written_more, written_record}
 use Rattle.build_pass.proofs.CutSteps.{IsNext}
 use Rattle.build_pass.proofs.Doing.{record_done, same_length, some_at}
 use Rattle.build_pass.proofs.Moving.{going_next}
@@ -126,3 +127,19 @@ returns-clause-done g c = λ M params l_is budget_is done.
     c.args.writer.now c.put_block.new.writer c.end_block.new.self (told c.args.store.now) (told c.put_block.new.store) (told c.end_block.new.store) b.shop.peak c.put_block.new.bench.shop.peak
     w.0 w.1 done r.1 lifted (ap (λ rs. slice_get rs i) tests ∙ c.record_at-record.ensures.value) names moved block w.2 w.3 (omega arith)
     c.in_ok-end_block.ensures.progress c.in_ok-end_block.ensures.content peak
+
+pub returns-clause-wrote : goal.returns-clause-wrote
+returns-clause-wrote g c = λ n rs h.
+    let told = g.S.Blob.held in
+    let e = c.in_ok-e.ensures in
+    let w = e.written in
+    let some = c.requires.left in
+    let same_left = e.left in
+    let r : TableRecord = record { entry = c.record_at-record.result; block = Ok (record { patches = w.0; moves = w.1 }) } in
+    let first =
+    written_more n rs [] (flat_map patch_bytes w.0 ++ counted move_bytes w.1) c.args.writer.now c.put_block.new.writer (told c.args.store.now) (told c.put_block.new.store) h w.3 w.2
+    in (
+      r,
+      written_record n rs r c.put_block.new.writer c.end_block.new.self (told c.put_block.new.store) (told c.end_block.new.store) first (omega arith)
+          c.in_ok-end_block.ensures.progress c.in_ok-end_block.ensures.content,
+    )

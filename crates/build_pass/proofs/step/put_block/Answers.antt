@@ -1,5 +1,5 @@
 -- The parts of a block, one behind another.
-use Rattle.std.proofs.Common.{◌≡◌, ◌≤◌, ◌<◌, ◌+◌, ◌*◌, ◌^◌, ◌++◌, ◌∙◌, ℕ, List, length, map, refl, sym, ap, subst, arith}
+use Rattle.std.proofs.Common.{◌≡◌, ◌+◌, ◌*◌, ◌^◌, ◌++◌, ◌∙◌, length, sym, ap, subst, arith}
 use Rattle.std.specs.Prelude.{flat_map, IsTrue}
 use Rattle.std.proofs.lemmas.Result.{err_from_is_err_and}
 use Rattle.tpz_base.specs.declared.shape.Cell.{Cell}
@@ -13,7 +13,7 @@ use Rattle.patch_file.specs.Appended.{content}
 use Rattle.patch_file.specs.Bytes.{counted, move_bytes, patch_bytes}
 use Rattle.patch_file.specs.Writing.{further}
 use Rattle.build_pass.specs.Building.{reduced}
-use Rattle.build_pass.specs.Keyed.{list_named, lists_named, part_names, sizes_named}
+use Rattle.build_pass.specs.Keyed.{list_named, lists_named, part_names}
 use Rattle.build_pass.specs.Passes.{peak_with}
 use Rattle.build_pass.specs.Writes.{hull_of, joined, moves_in}
 use Rattle.build_pass.proofs.Coarsening.{held_right}
