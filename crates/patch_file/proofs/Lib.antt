@@ -21,3 +21,5 @@ pub mod GateLaw
 pub mod WriterSteps
 pub mod WritingLaw
 pub mod Unfinished
+pub mod Distances
+pub mod RepresentedLaw

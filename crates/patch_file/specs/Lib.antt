@@ -8,3 +8,5 @@ pub mod Reading
 pub mod Appended
 pub mod Writing
 pub mod Written
+pub mod Patches
+pub mod Representatives

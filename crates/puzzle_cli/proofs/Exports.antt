@@ -1,6 +1,6 @@
 -- What is written for a mesh, part and note.
 use Rattle.std.proofs.Common.{◌≡◌, ℕ, List, [], ◌∷◌, ◌++◌, length, refl, sym, ◌∙◌, ap, ap₂, subst, arith}
-use Rattle.std.specs.Prelude.{map}
+use Rattle.std.specs.Prelude.{ℤ, map}
 use Rattle.std.specs.declared.option.Option.{Option}
 use Rattle.std.proofs.lemmas.List.{append-nil}
 use Rattle.tpz_io.specs.Told.{followed_by}
@@ -13,6 +13,7 @@ use Rattle.puzzle_cli.specs.declared.reading.InputMesh.{InputMesh}
 use Rattle.puzzle_cli.specs.declared.reading.Facts.{Facts}
 use Rattle.puzzle_cli.specs.declared.numbering.Numbered.{Numbered}
 use Rattle.puzzle_cli.specs.Finest.{finest_items, finest_note, finest_split, items_for, items_of, mesh_for, split_for, IsMeshOf}
+use Rattle.puzzle_cli.specs.Exports.{mesh_items}
 use Rattle.puzzle_cli.specs.Numbering.{numbered_mesh, IsNumbering}
 use Rattle.puzzle_cli.specs.Parts.{row_of, mesh_text}
 use Rattle.puzzle_cli.proofs.Pieces.{followed_by-nil}
@@ -26,25 +27,34 @@ numbered_text digits low n M is numbering =
 pub nothing : (p0 p1 : Option (List Bytes)) (n0 n1 : Option Bytes) → p1 ≡ p0 → n1 ≡ n0 → Wrote [] p0 p1 n0 n1
 nothing p0 p1 n0 n1 parts notes = record { parts = parts ∙ sym (followed_by-nil p0); notes = notes ∙ sym (followed_by-nil n0) }
 
-module _ (facts : Facts) (n : Numbered) (p0 p1 p2 : Option (List Bytes)) (n0 n1 n2 : Option Bytes) (numbering : IsNumbering n)
-    (part : p1 ≡ followed_by p0 (mesh_text facts.digits (row_of facts.low) n ∷ [])) (same : n1 ≡ n0) where
-  one_part : p1 ≡ followed_by p0 (text (numbered_mesh n) (row_of facts.low) facts.digits ∷ [])
-  one_part = part ∙ ap (λ (t : Bytes). followed_by p0 (t ∷ [])) (numbered_text facts.digits (row_of facts.low) n (numbered_mesh n) refl numbering)
+module _ (digits : ℕ) (low : List ℤ) (n : Numbered) (line : Bytes) (p0 p1 p2 : Option (List Bytes)) (n0 n1 n2 : Option Bytes) (numbering : IsNumbering n)
+    (part : p1 ≡ followed_by p0 (mesh_text digits (row_of low) n ∷ [])) (same : n1 ≡ n0) where
+  one_part : p1 ≡ followed_by p0 (text (numbered_mesh n) (row_of low) digits ∷ [])
+  one_part = part ∙ ap (λ (t : Bytes). followed_by p0 (t ∷ [])) (numbered_text digits (row_of low) n (numbered_mesh n) refl numbering)
 
-  pub part_alone : p2 ≡ p1 → n2 ≡ n1 → WrotePrefix (items_of facts (numbered_mesh n)) p0 p2 n0 n2
-  unfolding items_for
+  pub part_alone : p2 ≡ p1 → n2 ≡ n1 → WrotePrefix (mesh_items digits (row_of low) (numbered_mesh n) line) p0 p2 n0 n2
+  unfolding mesh_items
   part_alone parts notes = (1, record { parts = parts ∙ one_part; notes = notes ∙ same ∙ sym (followed_by-nil n0) })
 
-  pub part_and_note : (line : Bytes) (vs : List Point) → line ≡ finest_note facts.tris facts.dropped (length vs) → vs ≡ n.vertices.keys
-      → p2 ≡ p1 → n2 ≡ followed_by n1 (line ++ 10 ∷ []) → Wrote (items_of facts (numbered_mesh n)) p0 p2 n0 n2
-  unfolding items_for
-  part_and_note line vs says keys parts notes =
-      let whole : line ≡ finest_note facts.tris facts.dropped (length (vertices (numbered_mesh n))) =
-      says ∙ ap (λ (l : List Point). finest_note facts.tris facts.dropped (length l)) (keys ∙ numbering.keys) in
-      record {
-        parts = parts ∙ one_part;
-        notes = notes ∙ ap₂ (λ (u : Option Bytes) (l : Bytes). followed_by u (l ++ 10 ∷ [])) same whole ∙ ap (followed_by n0) (sym (append-nil _));
-      }
+  pub part_and_note : p2 ≡ p1 → n2 ≡ followed_by n1 (line ++ 10 ∷ []) → Wrote (mesh_items digits (row_of low) (numbered_mesh n) line) p0 p2 n0 n2
+  unfolding mesh_items
+  part_and_note parts notes = record {
+    parts = parts ∙ one_part;
+    notes = notes ∙ ap (λ (u : Option Bytes). followed_by u (line ++ 10 ∷ [])) same ∙ ap (followed_by n0) (sym (append-nil _));
+  }
+
+-- all of the two items are a front of them
+pub whole_front : (digits : ℕ) (low : Row) (M : Mesh) (line : Bytes) (p0 p1 : Option (List Bytes)) (n0 n1 : Option Bytes) → Wrote (mesh_items digits low M line) p0 p1 n0 n1
+    → WrotePrefix (mesh_items digits low M line) p0 p1 n0 n1
+unfolding mesh_items
+whole_front digits low M line p0 p1 n0 n1 wrote = (2, wrote)
+
+-- what `finest` writes for a mesh
+pub finest_items_are : (facts : Facts) (n : Numbered) (line : Bytes) (vs : List Point) → IsNumbering n → line ≡ finest_note facts.tris facts.dropped (length vs) → vs ≡ n.vertices.keys
+    → mesh_items facts.digits (row_of facts.low) (numbered_mesh n) line ≡ items_of facts (numbered_mesh n)
+unfolding mesh_items items_for
+finest_items_are facts n line vs numbering says keys =
+    ap (mesh_items facts.digits (row_of facts.low) (numbered_mesh n)) (says ∙ ap (λ (l : List Point). finest_note facts.tris facts.dropped (length l)) (keys ∙ numbering.keys))
 
 items_cong : (digits digits' : ℕ) (low low' : Row) (M M' : Mesh) (tris tris' dropped dropped' : ℕ) → digits ≡ digits' → low ≡ low' → M ≡ M'
     → tris ≡ tris' → dropped ≡ dropped' → items_for digits low M tris dropped ≡ items_for digits' low' M' tris' dropped'

@@ -3,7 +3,7 @@ use Rattle.std.proofs.Common.{◌≡◌, ◌≢◌, ℕ, ◌+◌, ◌<◌, ◌�
 use Rattle.std.proofs.lemmas.Bool.{cases_eq}
 use Rattle.std.specs.Prelude.{is_some, IsSome}
 use Rattle.std.specs.Option.{ForSome, option_map}
-use Rattle.std.proofs.lemmas.List.{take_more, length-take}
+use Rattle.std.proofs.lemmas.List.{take_more, length_push}
 use Rattle.tpz_base.specs.declared.shape.Tri.{Tri}
 use Rattle.tpz_base.specs.Meshes.{Mesh}
 use Rattle.tpz_base.specs.Texts.{Bytes}
@@ -42,6 +42,25 @@ one_counted (Some n) b c k first second =
     second ∙ ap (option_map (λ n. n + 1)) first ∙ ap Some sum
 
 -- one triangle more
+pub fills_one : (id : StreamId) (M : Mesh) (t : Tri) (s0 s1 s2 : StreamsState) (x y z : Option Bytes) → Fills id M s0 s1 x y
+    → count_of s2 id ≡ option_map (λ n. n + 1) (count_of s1 id)
+    → told_list s2 z id ≡ option_map (λ list. list ++ t ∷ []) (told_list s1 y id)
+    → LeavesOthers id s1 s2 y z → total s2 ≡ total s1 + 1 → Keeps s1 s2 y z
+    → Fills id (M ++ t ∷ []) s0 s2 x z
+fills_one id M t s0 s1 s2 x y z so_far count list others more kept =
+    let long : length (M ++ t ∷ []) ≡ length M + 1 = length_push M t in
+    record {
+      list = one_added (told_list s0 x id) (told_list s1 y id) (told_list s2 z id) M t so_far.list list;
+      count = subst (λ (k : ℕ). count_of s2 id ≡ option_map (λ n. n + k) (count_of s0 id)) (sym long)
+          (one_counted (count_of s0 id) (count_of s1 id) (count_of s2 id) (length M) so_far.count count);
+      others = λ w other. others.counts w other ∙ so_far.others w other;
+      total = omega (arith, more, so_far.total, long);
+      l = kept.l ∙ so_far.l;
+      stands = kept.stands;
+      telling = kept.front.same_telling ∙ so_far.telling;
+    }
+
+-- .. the next of a list
 pub fills_more : (id : StreamId) (tris : Mesh) (i : ℕ) (d : Tri) (s0 s1 s2 : StreamsState) (x y z : Option Bytes) → i < length tris
     → Fills id (take i tris) s0 s1 x y
     → count_of s2 id ≡ option_map (λ n. n + 1) (count_of s1 id)
@@ -49,23 +68,8 @@ pub fills_more : (id : StreamId) (tris : Mesh) (i : ℕ) (d : Tri) (s0 s1 s2 : S
     → LeavesOthers id s1 s2 y z → total s2 ≡ total s1 + 1 → Keeps s1 s2 y z
     → Fills id (take (i + 1) tris) s0 s2 x z
 fills_more id tris i d s0 s1 s2 x y z below so_far count list others more kept =
-    let next : take (i + 1) tris ≡ take i tris ++ get_or tris i d ∷ [] = take_more tris i d below in
-    let short : length (take i tris) ≡ i = length_taken i (omega arith) in
-    let long : length (take (i + 1) tris) ≡ i + 1 = length_taken (i + 1) (omega arith) in
-    record {
-      list = subst (λ (M : Mesh). told_list s2 z id ≡ option_map (λ l. l ++ M) (told_list s0 x id)) (sym next)
-          (one_added (told_list s0 x id) (told_list s1 y id) (told_list s2 z id) (take i tris) (get_or tris i d) so_far.list list);
-      count = subst (λ (k : ℕ). count_of s2 id ≡ option_map (λ n. n + k) (count_of s0 id)) (sym long)
-          (one_counted (count_of s0 id) (count_of s1 id) (count_of s2 id) i (subst (λ (k : ℕ). count_of s1 id ≡ option_map (λ n. n + k) (count_of s0 id)) short so_far.count) count);
-      others = λ w other. others.counts w other ∙ so_far.others w other;
-      total = omega (arith, more, so_far.total, short, long);
-      l = kept.l ∙ so_far.l;
-      stands = kept.stands;
-      telling = kept.front.same_telling ∙ so_far.telling;
-    }
-  where
-    length_taken : (k : ℕ) → k ≤ length tris → length (take k tris) ≡ k
-    length_taken k h = omega (arith, length-take k tris)
+    subst (λ (M : Mesh). Fills id M s0 s2 x z) (sym (take_more tris i d below))
+    (fills_one id (take i tris) (get_or tris i d) s0 s1 s2 x y z so_far count list others more kept)
 
 live_count : (o o' : Option ℕ) (k : ℕ) → o' ≡ option_map (λ n. n + k) o → IsSome o → IsSome o'
 live_count None o' k is live = absurd cc

@@ -8,6 +8,7 @@ pub mod LeafOrder
 pub mod RootCut
 pub mod Filling
 pub mod JobRanges
+pub mod JobRuns
 pub mod Completing
 pub mod SplitMesh
 pub mod WorkedWords

@@ -1,6 +1,6 @@
 -- From what `clap` takes to the options of a command, and back.
 use Rattle.std.proofs.Common.{◌≡◌, ◌∙◌, ℕ, ◌≤◌, Bool, true, false, not, ◌&&◌, ◌||◌, refl, sym, ap, ap₂, List, [], ◌∷◌, ◌++◌, ◌+◌, ◌-◌, ◌<◌, map, length, get_or, take, drop, codes, Option, Some, None, true≢false, arith}
-use Rattle.std.specs.List.{find, list_all, list_any}
+use Rattle.std.specs.List.{find, list_all, list_any, AllByRecursion}
 use Rattle.std.specs.Prelude.{nat_le, option_and_then}
 use Rattle.std.specs.Bool.{one_answer}
 use Rattle.std.specs.Option.{option_map_or}
@@ -17,7 +17,7 @@ use Rattle.clap.specs.Walk.{Row, Text, first_of, nothing_held, rows_after, settl
 use Rattle.clap.specs.declared.parser.matches.ArgMatches.{ArgMatches}
 use Rattle.clap.proofs.SimpleLemmas.{is_false}
 use Rattle.clap.proofs.WalkLemmas.{both, first_value-rows, list_any-map}
-use Rattle.puzzle_cli.specs.Words.{Given, Setting, asked, commands, finest, job_with, are_different, are_options, flag, given_in, is_met, is_named, is_of, is_value, text_for}
+use Rattle.puzzle_cli.specs.Words.{Command, Given, Setting, asked, commands, job_with, are_different, are_options, flag, given_in, is_met, is_named, is_of, is_value, text_for}
 use Rattle.puzzle_cli.specs.declared.options.Setting.{Setting as StoredSetting}
 use Rattle.puzzle_cli.specs.Parses.{TellsOptions, option_rule, options_app, setting_of}
 use Rattle.puzzle_cli.proofs.Parses.{Use, built_is, fault_is, finished_is, is_known, is_seen, ready, row, simple_options}
@@ -274,18 +274,24 @@ pub none_given : {X : Type 0} (f : X → Text) (xs : List X) → length xs < 1 �
 none_given f [] none = refl
 none_given f (x ∷ xs) none = absurd (omega arith)
 
--- the words ask for a job of `finest`
-pub asked_finest : (word : Text) (words : List Text) → word ≡ codes "finest" → asked (word ∷ words) ≡ job_with words finest
+-- the first word names a command
+pub asked_named : (c : Command) (word : Text) (words : List Text) → find (λ d. bytes_eq d.name c.name) commands ≡ Some c → word ≡ c.name → asked (word ∷ words) ≡ job_with words c
 unfolding asked
-asked_finest word words is = ap (λ (w : Text). option_and_then (job_with words) (find (λ c. bytes_eq c.name w) commands)) is
+asked_named c word words found is =
+    ap (λ (w : Text). option_and_then (job_with words) (find (λ d. bytes_eq d.name w) commands)) is ∙ ap (option_and_then (job_with words)) found
 
-pub asked_other : (word : Text) (words : List Text) → (word ≡ codes "finest" → ⊥) → asked (word ∷ words) ≡ None
-unfolding asked
-asked_other word words other = go (bytes_eq (codes "finest") word) refl
+none_named : (word : Text) (cs : List Command) → AllByRecursion (λ (c : Command). word ≡ c.name → ⊥) cs → list_any (λ (c : Command). bytes_eq c.name word) cs ≡ false
+none_named word [] others = refl
+none_named word (c ∷ cs) others = go (bytes_eq c.name word) refl (none_named word cs others.1)
   where
-    go : (b : Bool) → bytes_eq (codes "finest") word ≡ b → option_and_then (job_with words) (find (λ c. bytes_eq c.name word) commands) ≡ None
-    go true e = absurd (other (sym ((bytes_eq-Decides (codes "finest") word).0 e)))
-    go false e = rw e refl
+    go : (b : Bool) → bytes_eq c.name word ≡ b → list_any (λ (d : Command). bytes_eq d.name word) cs ≡ false → list_any (λ (d : Command). bytes_eq d.name word) (c ∷ cs) ≡ false
+    go true e rest = absurd (others.0 (sym ((bytes_eq-Decides c.name word).0 e)))
+    go false e rest = rw e rest
+
+-- the first word names no command
+pub asked_other : (word : Text) (words : List Text) → AllByRecursion (λ (c : Command). word ≡ c.name → ⊥) commands → asked (word ∷ words) ≡ None
+unfolding asked
+asked_other word words others = ap (option_and_then (job_with words)) (find_none (λ c. bytes_eq c.name word) commands (none_named word commands others))
 
 -- one more option of a command
 pub option_added : (name : Text) (settings : List StoredSetting) (i : ℕ) (d : StoredSetting) (n : Bor Text) (old new : App) (r : Rule) → i < length settings → n ≡ (get_or settings i d).name

@@ -1,6 +1,6 @@
 -- The triangles of an input, collected one by one.
-use Rattle.std.proofs.Common.{◌≡◌, ℕ, zero, suc, ◌+◌, ◌≤◌, Bool, true, false, cond, List, [], ◌∷◌, ◌++◌, length, refl, sym, ◌∙◌, ap, ap₂, arith, append_assoc, Ok, Err, inl, inr}
-use Rattle.std.specs.Prelude.{◌⊎◌, is_some, not, map, drop, filter, count_by, All, IsTrue, Result, ℤ, pos, unsigned_abs, slice_index_or}
+use Rattle.std.proofs.Common.{◌≡◌, ℕ, zero, suc, ◌+◌, ◌*◌, ◌≤◌, Bool, true, false, cond, List, [], ◌∷◌, ◌++◌, length, refl, sym, ◌∙◌, ap, ap₂, subst, arith, append_assoc, Ok, Err, inl, inr}
+use Rattle.std.specs.Prelude.{◌⊎◌, is_some, not, map, take, drop, filter, count_by, All, IsTrue, Result, ℤ, pos, unsigned_abs, slice_index_or}
 use Rattle.std.specs.Option.{option_map, ForSome}
 use Rattle.std.specs.declared.option.Option.{Option}
 use Rattle.std.specs.declared.option.Option.TheVariants.{Some, None}
@@ -10,7 +10,7 @@ use Rattle.std.proofs.lemmas.List.Sums.{sum_by-append}
 use Rattle.tpz_base.specs.declared.shape.Point.{Point}
 use Rattle.tpz_base.specs.declared.shape.Tri.{Tri}
 use Rattle.tpz_base.specs.Meshes.{Mesh, is_whole}
-use Rattle.tpz_io.specs.Told.{ahead}
+use Rattle.tpz_io.specs.Told.{ahead, Changes}
 use Rattle.tpz_base.specs.Cubes.{Row, level_bound, low_of}
 use Rattle.tpz_base.specs.Texts.{Bytes, Face}
 use Rattle.tpz_base.proofs.Elements.{count_by-filter}
@@ -24,15 +24,16 @@ use Rattle.ply_body.specs.declared.frame.Frame.{Frame}
 use Rattle.ply_body.specs.Items.{◌>>=◌, MOST_BYTES, items_of}
 use Rattle.ply_body.specs.Bodies.{Input, no_input, elements}
 use Rattle.ply_body.specs.Inputs.{Refusal, InHead, InBody, refused_as, body as body_of, points_of, triangle_at, whole_of, broken_of, setting_of, mesh_of, dropped_of}
-use Rattle.ply_body.specs.Spots.{coordinates, spots_of, AreSpots, HoldsRows}
+use Rattle.ply_body.specs.Spots.{coordinates, spots_of, rows_bytes, AreSpots, HoldsPoints, HoldsRows}
+use Rattle.ply_body.proofs.SpotRows.{length-rows_bytes}
+use Rattle.ply_body.proofs.CubeRows.{frame_spots}
 use Rattle.ply_body.specs.Readings.{with_faces, with_spots, coming_told, input_told, opened, IsRefusal, Reading}
-use Rattle.puzzle_cli.specs.declared.reading.InputMesh.{InputMesh}
 use Rattle.puzzle_cli.specs.declared.status.Status.{Status}
 use Rattle.puzzle_cli.specs.declared.status.Status.TheVariants.{WorkDamage}
-use Rattle.puzzle_cli.specs.Finest.{digits_by, digits_for, digits_of, input_for, IsMeshOf}
+use Rattle.puzzle_cli.specs.Finest.{digits_by, digits_for, digits_of, input_for}
 use Rattle.puzzle_cli.specs.Parts.{IsLow}
 use Rattle.puzzle_cli.specs.Statuses.{head_status, body_status, status_of, IsRefused}
-use Rattle.puzzle_cli.specs.Readings.{AreWhole, IsRefusalTold}
+use Rattle.puzzle_cli.specs.Readings.{AreWhole, HasOpened, IsRefusalTold, TrisTold}
 
 abbrev Coming : Type 0
 Coming = Option (Result (List Face) BodyFault)
@@ -224,41 +225,10 @@ input_by chosen head reading digits told left bytes r read scale is tells means 
     body_told chosen bytes h (read.1.heading bytes tells) ∙ ap (λ (d : ℕ). refused_as InBody (body_of h d (drop read.0 bytes))) (sym scale)
     ∙ ap (refused_as InBody) meant
 
-pub spots_refused : (o : Option (Result Input BodyFault)) (c : Coming) (rs : List Row) (f : BodyFault) → o ≡ option_map (with_spots rs) c
-    → ForSome c (λ r. r ≡ Err f) → ForSome o (λ r. r ≡ Err f)
-spots_refused o c rs f first last = λ r told. go c r (sym first ∙ told) last where
-  go : (c : Coming) (r : Result Input BodyFault) → option_map (with_spots rs) c ≡ Some r → ForSome c (λ r. r ≡ Err f) → r ≡ Err f
-  go None r told last = cc
-  go (Some (Ok gs)) r told last = let same : Ok gs ≡ Err f = last (Ok gs) refl in cc
-  go (Some (Err g)) r told last = let same : Err g ≡ Err f = last (Err g) refl in cc
-
-pub spots_read : (o : Option (Result Input BodyFault)) (c : Coming) (rs : List Row) (fs : List Face) → o ≡ option_map (with_spots rs) c
-    → ForSome c (λ r. r ≡ Ok fs) → ForSome o (λ r. r ≡ Ok (record { rows = rs; faces = fs }))
-spots_read o c rs fs first last = λ r told. go c r (sym first ∙ told) last where
-  go : (c : Coming) (r : Result Input BodyFault) → option_map (with_spots rs) c ≡ Some r → ForSome c (λ r. r ≡ Ok fs)
-      → r ≡ Ok (record { rows = rs; faces = fs })
-  go None r told last = cc
-  go (Some (Ok gs)) r told last = let same : Ok gs ≡ Ok fs = last (Ok gs) refl in cc
-  go (Some (Err g)) r told last = let same : Err g ≡ Ok fs = last (Err g) refl in cc
-
 one_meaning : (i j : Input) → ◌≡◌ {A = Result Input Refusal} (Ok i) (Ok j) → i ≡ j
 one_meaning i j same = cc
 
--- the mesh of the rows and faces that were read is that of those that the input means
-pub mesh_read : (chosen : Option ℕ) (mesh : InputMesh) (input : Input) (bytes : Bytes) (rows : List Row) (faces : List Face) → input_for chosen bytes ≡ Ok input
-    → input_for chosen bytes ≡ Ok (record { rows = rows; faces = faces }) → mesh.l ≡ level_bound input.rows → mesh.digits ≡ digits_of chosen bytes → mesh.low ≡ coordinates (low_of input.rows)
-    → mesh.tris.items ≡ whole_of (points_of input.rows) input.faces → mesh.dropped ≡ broken_of (points_of input.rows) input.faces
-    → IsMeshOf mesh (digits_of chosen bytes) rows faces
-mesh_read chosen mesh input bytes rows faces is means l digits low tris dropped =
-    let same : input ≡ record { rows = rows; faces = faces } = one_meaning input (record { rows = rows; faces = faces }) (sym is ∙ means) in record {
-      l = l ∙ ap (λ (i : Input). level_bound i.rows) same;
-      digits = digits;
-      low = low ∙ ap (λ (i : Input). coordinates (low_of i.rows)) same;
-      tris = tris ∙ ap (λ (i : Input). mesh_of i.rows i.faces) same;
-      dropped = dropped ∙ ap (λ (i : Input). dropped_of i.rows i.faces) same;
-    }
-
-some_same : {X : Type 0} {x y : X} → ◌≡◌ {A = Option X} (Some x) (Some y) → x ≡ y
+pub some_same : {X : Type 0} {x y : X} → ◌≡◌ {A = Option X} (Some x) (Some y) → x ≡ y
 some_same e = cc
 
 -- what is told stays told
@@ -272,20 +242,55 @@ no_less head reading digits told left bytes read is tells none =
     let no : None ≡ Some (body_of h digits (drop read.0 bytes)) = sym none ∙ ap (λ (x : Reading). input_told x left) is ∙ known in
     cc
 
--- an input is refused where the triangles are that were to come
-pub refused_by : (chosen : Option ℕ) (head : HeadState) (reading : Reading) (digits : ℕ) (told left : Option Bytes) (bytes : Bytes) (c : Coming) (rs : List Row)
-    (status status' : Status) → (size : ℕ) × IsHeadOf head size told (ahead head.held left) → digits ≡ digits_for chosen head.elements
-    → reading ≡ opened head digits → told ≡ Some bytes → input_told reading left ≡ option_map (with_spots rs) c
-    → ForSome c (λ r. IsRefusalTold r status) → status' ≡ status → (x : Refusal) × (input_for chosen bytes ≡ Err x) × (status' ≡ status_of x)
-refused_by chosen head reading digits told left bytes None rs status status' read scale is tells first last same =
+-- what an opened reader still has to give is told where the input is
+pub opened_means : (chosen : Option ℕ) (head : HeadState) (reading : Reading) (digits : ℕ) (told left : Option Bytes) (bytes : Bytes) (c : Coming) (rs : List Row)
+    → (size : ℕ) × IsHeadOf head size told (ahead head.held left) → digits ≡ digits_for chosen head.elements → reading ≡ opened head digits
+    → told ≡ Some bytes → input_told reading left ≡ option_map (with_spots rs) c
+    → (r : Result (List Face) BodyFault) × (c ≡ Some r) × (input_for chosen bytes ≡ refused_as InBody (with_spots rs r))
+opened_means chosen head reading digits told left bytes None rs read scale is tells first =
     absurd (no_less head reading digits told left bytes read is tells first)
-refused_by chosen head reading digits told left bytes (Some r) rs status status' read scale is tells first last same =
-    let why = last r refl in (
-      InBody why.0,
-      input_by chosen head reading digits told left bytes (Err why.0) read scale is tells
-          (spots_refused (input_told reading left) (Some r) rs why.0 first (λ x e. sym (some_same e) ∙ why.1)),
-      same ∙ why.2,
-    )
+opened_means chosen head reading digits told left bytes (Some r) rs read scale is tells first =
+    (r, refl, input_by chosen head reading digits told left bytes (with_spots rs r) read scale is tells (λ x e. sym (some_same (sym first ∙ e))))
+
+module _ (chosen : Option ℕ) (told left held : Option Bytes) (bytes : Bytes) (scale : ℕ) (frame : Frame) (reading : Reading)
+    (o : HasOpened chosen told left held scale frame reading) (tells : told ≡ Some bytes) where
+  -- an input is refused where the triangles are that were to come
+  pub refused_by : (status status' : Status) → ForSome (coming_told reading left) (λ r. IsRefusalTold r status) → status' ≡ status
+      → (x : Refusal) × (input_for chosen bytes ≡ Err x) × (status' ≡ status_of x)
+  refused_by status status' last same =
+      let m = o.means bytes tells in
+      let why = last m.0 m.1 in
+      (InBody why.0, m.2 ∙ ap (λ r. refused_as InBody (with_spots o.rows r)) why.1, same ∙ why.2)
+
+  -- and means the rows with all triangles that came
+  pub accepted_by : (faces : List Face) → ForSome (coming_told reading left) (λ r. r ≡ Ok faces) → input_for chosen bytes ≡ Ok (record { rows = o.rows; faces = faces })
+  accepted_by faces all =
+      let m = o.means bytes tells in
+      m.2 ∙ ap (λ r. refused_as InBody (with_spots o.rows r)) (all m.0 m.1)
+
+-- what was read is what an input of these rows and faces means
+pub record IsRead (scale : ℕ) (frame : Frame) (tris : Mesh) (dropped digits : ℕ) (rows : List Row) (faces : List Face) : Type 0 where
+  pub l : frame.l ≡ level_bound rows
+  pub scaled : scale ≡ digits
+  pub low : frame.low ≡ coordinates (low_of rows)
+  pub whole : tris ≡ mesh_of rows faces
+  pub lost : dropped ≡ dropped_of rows faces
+
+pub all_read : (chosen : Option ℕ) (told left held held' : Option Bytes) (bytes holds : Bytes) (scale : ℕ) (frame : Frame) (reading last : Reading) (tris : Mesh) (rows : List Row) (faces : List Face)
+    → HasOpened chosen told left held scale frame reading → told ≡ Some bytes → held ≡ Some holds → held' ≡ held → TrisTold reading last left held' frame tris
+    → input_for chosen bytes ≡ Ok (record { rows = rows; faces = faces }) → IsRead scale frame tris last.dropped (digits_of chosen bytes) rows faces
+all_read chosen told left held held' bytes holds scale frame reading last tris rows faces o tells keeps same_held t means =
+    let is = accepted_by chosen told left held bytes scale frame reading o tells t.faces t.all in
+    let same : record { rows = o.rows; faces = t.faces } ≡ record { rows = rows; faces = faces } =
+    one_meaning (record { rows = o.rows; faces = t.faces }) (record { rows = rows; faces = faces }) (sym is ∙ means) in
+    let whole = t.whole holds (same_held ∙ keeps) (low_of o.rows) o.rows (frame_spots frame o.rows o.framed) (o.points holds keeps) in
+    record {
+      l = o.framed.l ∙ ap (λ (i : Input). level_bound i.rows) same;
+      scaled = o.digits bytes tells;
+      low = o.framed.low ∙ ap (λ (i : Input). coordinates (low_of i.rows)) same;
+      whole = whole.0 ∙ ap (λ (i : Input). mesh_of i.rows i.faces) same;
+      lost = whole.1 ∙ ap (λ (i : Input). dropped_of i.rows i.faces) same;
+    }
 
 -- coordinates that are small where they stand, or aren't there
 small_at : (zs : List ℤ) (i : ℕ) → All (λ z. unsigned_abs z ≤ 2147483647) zs → unsigned_abs (slice_index_or zs i (pos 0)) ≤ 2147483647
@@ -304,3 +309,42 @@ told_later old None x same is = absurd (let no : false ≡ true = same ∙ ap is
 pub untold_before : {X : Type 0} (old new : Option X) → is_some new ≡ is_some old → new ≡ None → old ≡ None
 untold_before None new same is = refl
 untold_before (Some x) new same is = absurd (let no : true ≡ false = sym same ∙ ap is_some is in cc)
+
+-- bytes with the same front hold the same rows
+rows_kept : (base : ℕ) (bytes bytes' : Bytes) (rows : List Row) → base ≡ 12 * length rows → take base bytes' ≡ take base bytes → HoldsRows rows bytes → HoldsRows rows bytes'
+rows_kept base bytes bytes' rows size same holds =
+    let len : length (rows_bytes rows) ≡ base = length-rows_bytes rows ∙ sym size in
+    ap (λ n. take n bytes') len ∙ same ∙ ap (λ n. take n bytes) (sym len) ∙ holds
+
+-- what is given by the points that a blob holds later is given by those that it held before, where its front is kept
+pub given_before : (frame : Frame) (base : ℕ) (before now : Option Bytes) (lost : List Face) (face : Face) (t : Tri)
+    → Changes (λ bytes bytes'. take base bytes' ≡ take base bytes) before now → base ≡ 12 * frame.vertices → OneGiven frame now lost face t → OneGiven frame before lost face t
+given_before frame base before now lost face t changes size given = λ bytes told low rows is holds.
+    let later = told_later before now bytes changes.same_telling told in
+    given later.0 later.1 low rows is (rows_kept base bytes later.0 rows (size ∙ ap (λ n. 12 * n) is.vertices) (changes.change bytes later.0 told later.1) holds)
+
+pub lost_before : (frame : Frame) (base : ℕ) (before now : Option Bytes) (lost : List Face)
+    → Changes (λ bytes bytes'. take base bytes' ≡ take base bytes) before now → base ≡ 12 * frame.vertices → AllLost frame now lost → AllLost frame before lost
+lost_before frame base before now lost changes size given = λ bytes told low rows is holds.
+    let later = told_later before now bytes changes.same_telling told in
+    given later.0 later.1 low rows is (rows_kept base bytes later.0 rows (size ∙ ap (λ n. 12 * n) is.vertices) (changes.change bytes later.0 told later.1) holds)
+
+pub points_kept : (frame : Frame) (base : ℕ) (before now : Option Bytes)
+    → Changes (λ bytes bytes'. take base bytes' ≡ take base bytes) before now → base ≡ 12 * frame.vertices → ForSome before (HoldsPoints frame) → ForSome now (HoldsPoints frame)
+points_kept frame base before now changes size points = λ bytes told.
+    let first = told_later now before bytes (sym changes.same_telling) told in
+    let p = points first.0 first.1 in
+    (p.0, p.1, p.2, rows_kept base first.0 bytes p.1 (size ∙ ap (λ n. 12 * n) p.2.vertices) (changes.change first.0 bytes first.1 told) p.3)
+
+pub same_front : (base : ℕ) (told : Option Bytes) → Changes (λ bytes bytes'. take base bytes' ≡ take base bytes) told told
+same_front base told = record { same_telling = refl; change = λ x y is is'. ap (take base) (some_same (sym is' ∙ is)) }
+
+-- the front is kept from one to the next
+pub fronts_join : (base base' : ℕ) (x y z : Option Bytes) → base' ≡ base → Changes (λ bytes bytes'. take base bytes' ≡ take base bytes) x y
+    → Changes (λ bytes bytes'. take base' bytes' ≡ take base' bytes) y z → Changes (λ bytes bytes'. take base bytes' ≡ take base bytes) x z
+fronts_join base base' x y z same first second = record {
+  same_telling = second.same_telling ∙ first.same_telling;
+  change = λ bytes bytes' told told'.
+      let mid = told_later x y bytes first.same_telling told in
+      subst (λ n. take n bytes' ≡ take n mid.0) same (second.change mid.0 bytes' mid.1 told') ∙ first.change bytes mid.0 told mid.1;
+}

@@ -1,7 +1,7 @@
 -- Worked lists of words, with the jobs that they ask for.
 use Rattle.std.specs.Prelude.{◌≡◌, [], ◌∷◌, Some, None, codes}
 use Rattle.std.proofs.Common.{refl}
-use Rattle.puzzle_cli.specs.declared.jobs.Job.TheVariants.{Finest}
+use Rattle.puzzle_cli.specs.declared.jobs.Job.TheVariants.{Finest, Gen}
 use Rattle.puzzle_cli.specs.Words.{asked, given_in}
 
 -- ---- taken
@@ -26,7 +26,31 @@ leading_zeros : asked (codes "finest" ∷ codes "--cap" ∷ codes "0000000001" �
 unfolding asked given_in
 leading_zeros = refl
 
+needed_option : asked (codes "gen" ∷ codes "--size=1" ∷ []) ≡ Some (Gen 1)
+unfolding asked given_in
+needed_option = refl
+
+greatest_size : asked (codes "gen" ∷ codes "--size" ∷ codes "500" ∷ []) ≡ Some (Gen 500)
+unfolding asked given_in
+greatest_size = refl
+
 -- ---- outside the grammar
+
+without_its_option : asked (codes "gen" ∷ []) ≡ None
+unfolding asked given_in
+without_its_option = refl
+
+size_of_zero : asked (codes "gen" ∷ codes "--size=0" ∷ []) ≡ None
+unfolding asked given_in
+size_of_zero = refl
+
+size_past_the_greatest : asked (codes "gen" ∷ codes "--size=501" ∷ []) ≡ None
+unfolding asked given_in
+size_past_the_greatest = refl
+
+option_of_another_command : asked (codes "gen" ∷ codes "--size=1" ∷ codes "--cap=1" ∷ []) ≡ None
+unfolding asked given_in
+option_of_another_command = refl
 
 no_words : asked [] ≡ None
 unfolding asked given_in

@@ -1,17 +1,21 @@
 -- What was read of an input.
-use Rattle.std.specs.Prelude.{◌≡◌, ◌≤◌, ◌^◌, ℕ, List, length, All, Option, Result, Ok, Err}
+use Rattle.std.specs.Prelude.{◌≡◌, ◌≤◌, ◌+◌, ◌^◌, ℕ, List, length, All, Option, Some, None, Result, Ok, Err}
 use Rattle.std.specs.Option.{ForSome}
 use Rattle.tpz_base.specs.Meshes.{Mesh}
-use Rattle.tpz_base.specs.Cubes.{Row}
+use Rattle.tpz_base.specs.Cubes.{Row, low_of, level_bound}
 use Rattle.tpz_base.specs.Texts.{Bytes, Face}
 use Rattle.ply_body.specs.declared.fault.BodyFault.{BodyFault}
 use Rattle.ply_body.specs.declared.frame.Frame.{Frame}
-use Rattle.ply_body.specs.Inputs.{whole_of, broken_of}
-use Rattle.ply_body.specs.Spots.{spots_of, AreSpots, HoldsRows}
-use Rattle.ply_body.specs.Readings.{Reading, coming_told}
+use Rattle.ply_body.specs.Inputs.{whole_of, broken_of, mesh_of, dropped_of, refused_as, InBody}
+use Rattle.ply_body.specs.Spots.{coordinates, spots_of, AreSpots, HoldsRows, IsFrameOf}
+use Rattle.ply_body.specs.Readings.{Reading, coming_told, with_spots}
 use Rattle.tri_stream.specs.Lists.{IsHeld}
+use Rattle.tri_stream.specs.declared.names.StreamId.{StreamId}
+use Rattle.tri_stream.specs.Streams.{count_of, told_list, total, IsLive, Stands}
 use Rattle.puzzle_cli.specs.declared.reading.InputMesh.{InputMesh}
+use Rattle.puzzle_cli.specs.declared.reading.InputStream.{InputStream}
 use Rattle.puzzle_cli.specs.declared.status.Status.{Status}
+use Rattle.puzzle_cli.specs.Finest.{digits_of, input_for}
 use Rattle.puzzle_cli.specs.Parts.{IsLow}
 use Rattle.puzzle_cli.specs.Statuses.{body_status}
 
@@ -37,3 +41,36 @@ pub record IsSmallMesh (mesh : InputMesh) : Type 0 where
   pub low : IsLow mesh.low
   pub plain : All (IsHeld mesh.l) mesh.tris.items
   pub few : length mesh.tris.items ≤ 2147483648
+
+-- The header and the points of an input were read. The frame is that of some rows, which the blob holds, no triangle came so far, and the input means
+-- these rows with the triangles that are still to come.
+pub record HasOpened (chosen : Option ℕ) (told left held : Option Bytes) (scale : ℕ) (frame : Frame) (reading : Reading) : Type 0 where
+  pub rows : List Row
+  pub framed : IsFrameOf frame rows
+  pub points : ForSome held (HoldsRows rows)
+  pub kept : reading.frame ≡ Some frame
+  pub opened : reading.refusal ≡ None
+  pub given : reading.given ≡ 0
+  pub dropped : reading.dropped ≡ 0
+  pub digits : ForSome told (λ bytes. scale ≡ digits_of chosen bytes)
+  pub means : ForSome told (λ bytes. (coming : Result (List Face) BodyFault) × (coming_told reading left ≡ Some coming)
+      × (input_for chosen bytes ≡ refused_as InBody (with_spots rows coming)))
+
+-- The stream that was read is that of these digits, rows and faces.
+pub record IsStreamOf (read : InputStream) (now : Option Bytes) (scale : ℕ) (rows : List Row) (faces : List Face) : Type 0 where
+  pub l : read.streams.l ≡ level_bound rows
+  pub digits : read.digits ≡ scale
+  pub low : read.low ≡ coordinates (low_of rows)
+  pub list : told_list read.streams now read.whole ≡ Some (mesh_of rows faces)
+  pub tris : read.tris ≡ length (mesh_of rows faces)
+  pub dropped : read.dropped ≡ dropped_of rows faces
+
+-- The bounds of a stream that was read, whatever source and blob tell, and that there is no other.
+pub record IsSmallStream (now : Option Bytes) (read : InputStream) : Type 0 where
+  pub level : (1 ≤ read.streams.l) × (read.streams.l ≤ 30)
+  pub low : IsLow read.low
+  pub count : count_of read.streams read.whole ≡ Some read.tris
+  pub total : total read.streams ≡ read.tris
+  pub only : (id : StreamId) → IsLive read.streams id → id ≡ read.whole
+  pub stands : ForSome now (Stands read.streams)
+  pub few : read.tris + read.dropped ≤ 2147483648

@@ -1,12 +1,12 @@
 -- The words of the command line: a command, and a list of its options, each with a number.
-use Rattle.std.specs.Prelude.{◌≡◌, ℕ, ◌==◌, Bool, true, false, not, ◌&&◌, nat_le, if◌then◌else◌, List, [], ◌∷◌, ◌++◌, map, flat_map, codes, find, Option, Some, None, option_map, option_and_then}
+use Rattle.std.specs.Prelude.{◌≡◌, ℕ, ◌==◌, Bool, true, false, not, ◌&&◌, nat_le, if◌then◌else◌, List, [], ◌∷◌, ◌++◌, map, flat_map, codes, find, Option, Some, None, option_map, option_and_then, unwrap_or}
 use Rattle.std.specs.List.{list_all, list_any, before_first, after_first}
 use Rattle.std.specs.Option.{option_map_or}
 use Rattle.std.specs.Str.{bytes_eq}
 use Rattle.tpz_base.specs.Texts.{Bytes}
 use Rattle.ply_head.specs.Numbers.{are_digits, value}
 use Rattle.puzzle_cli.specs.declared.jobs.Job.{Job}
-use Rattle.puzzle_cli.specs.declared.jobs.Job.TheVariants.{Finest}
+use Rattle.puzzle_cli.specs.declared.jobs.Job.TheVariants.{Finest, Gen}
 
 -- ---- the options that words spell
 
@@ -97,6 +97,10 @@ are_options settings gs = list_all (is_of settings) gs && (are_different gs && l
 abbrev pub number_for : Setting → List Given → Option ℕ
 number_for s gs = option_map value (text_for s gs)
 
+-- the number of an option that must be there; 0 stands for none, and is never used
+abbrev pub needed_for : Setting → List Given → ℕ
+needed_for s gs = unwrap_or (number_for s gs) 0
+
 -- ---- the commands
 
 abbrev pub digits : Setting
@@ -104,6 +108,9 @@ digits = record { name = codes "digits"; least = 0; greatest = 9; is_required = 
 
 abbrev pub cap : Setting
 cap = record { name = codes "cap"; least = 1; greatest = 16777216; is_required = false }
+
+abbrev pub size : Setting
+size = record { name = codes "size"; least = 1; greatest = 500; is_required = true }
 
 -- a command, its options, and its job by what is given
 pub record Command : Type 0 where
@@ -118,8 +125,15 @@ finest = record {
   job = λ gs. Finest (number_for digits gs) (number_for cap gs);
 }
 
+abbrev pub gen : Command
+gen = record {
+  name = codes "gen";
+  settings = size ∷ [];
+  job = λ gs. Gen (needed_for size gs);
+}
+
 abbrev pub commands : List Command
-commands = finest ∷ []
+commands = finest ∷ gen ∷ []
 
 -- the job of a command with the options that the words behind it spell
 abbrev pub job_with : List Bytes → Command → Option Job

@@ -13,8 +13,9 @@ ghost use Rattle.puzzle_cli.specs.Parts.{IsLow};
 ghost use Rattle.puzzle_cli.specs.Statuses.{status_of, IsRefused};
 
 use crate::Status;
+use crate::export::write_mesh;
 use crate::numbering::Numbered;
-use crate::part_text::{WriteFault, write_part};
+use crate::part_text::WriteFault;
 use crate::reading::{Facts, read_mesh};
 use crate::splitting::number;
 use std::alloc::{AllocError, Global};
@@ -48,9 +49,7 @@ fn export<O: Out>(
 {
     let vertices = mesh.vertices.as_slice();
     let line = note_line(alloc, facts.tris, facts.dropped, vertices.len())?;
-    write_part(alloc, out, mesh, facts.digits, &facts.low)?;
-    out.note(line.as_bytes())?;
-    Ok(())
+    write_mesh(alloc, out, mesh, facts.digits, &facts.low, line.as_bytes())
 }
 
 /// Reads an input, and writes its mesh in the order of its finest cut. Without digits those are taken that the types of the

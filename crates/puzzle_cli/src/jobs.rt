@@ -1,8 +1,8 @@
 // The jobs that the words of the command line ask for.
-ghost use Rattle.std.specs.Prelude.{◌≡◌, ◌≤◌, ◌↔◌, IsTrue, Err, None, Some, List, IfOk, IfSome, map, string_bytes};
+ghost use Rattle.std.specs.Prelude.{◌≡◌, ◌≤◌, ◌↔◌, ◌∷◌, IsTrue, Err, None, Some, List, IfOk, IfSome, map, string_bytes};
 ghost use Rattle.tpz_base.specs.Texts.{Bytes};
 ghost use Rattle.puzzle_cli.specs.declared.jobs.WordsFault.TheVariants.{Usage, Memory};
-ghost use Rattle.puzzle_cli.specs.Words.{Given, Spell, asked, finest, given_in, job_with};
+ghost use Rattle.puzzle_cli.specs.Words.{Given, Spell, asked, finest, gen, given_in, job_with};
 
 use crate::options::{Setting, option_number, take_options};
 use std::alloc::{AllocError, Global};
@@ -15,6 +15,10 @@ pub enum Job {
     Finest {
         digits: Option<u8>,
         cap: Option<u32>,
+    },
+    /// `gen`: how many squares are in a row on each side of the mesh.
+    Gen {
+        size: u32,
     },
 }
 
@@ -50,6 +54,13 @@ const CAP: Setting = Setting {
     is_required: false,
 };
 
+const SIZE: Setting = Setting {
+    name: "size",
+    least: 1,
+    greatest: 500,
+    is_required: true,
+};
+
 /// The job that the words ask for: a command, compared exactly, and then options of that command, each at most once, as
 /// the two words `--NAME` and `VALUE` or the one word `--NAME=VALUE`. A value is 1 to 10 decimal digits in its range;
 /// leading zeros are allowed. All else is `Usage`, also `--help`, `--version`, `--` and the start of a name.
@@ -59,9 +70,23 @@ pub fn read_words(alloc: Global, words: &[String]) -> Result<Job, WordsFault>
     ensures spelled { (words : List Bytes) (gs : List Given) → given_in words ≡ Some gs ↔ Spell gs words }
 {
     match words {
-        [command, options @ ..] if is_named(command, "finest") => read_finest(alloc, options),
-        _ => Err(WordsFault::Usage),
+        [command, options @ ..] => read_command(alloc, command, options),
+        [] => Err(WordsFault::Usage),
     }
+}
+
+// The job of the command with this name, with the options that the words behind it spell.
+fn read_command(alloc: Global, command: &String, words: &[String]) -> Result<Job, WordsFault>
+    ensures ok { IfOk result (λ job. asked (string_bytes command.now ∷ map string_bytes words.now) ≡ Some job) }
+    ensures usage { result ≡ Err Usage → asked (string_bytes command.now ∷ map string_bytes words.now) ≡ None }
+{
+    if is_named(command, "finest") {
+        return read_finest(alloc, words);
+    }
+    if is_named(command, "gen") {
+        return read_gen(alloc, words);
+    }
+    Err(WordsFault::Usage)
 }
 
 fn is_named(word: &String, name: &str) -> bool
@@ -82,6 +107,18 @@ fn read_finest(alloc: Global, words: &[String]) -> Result<Job, WordsFault>
         digits: byte_of(digits),
         cap,
     })
+}
+
+fn read_gen(alloc: Global, words: &[String]) -> Result<Job, WordsFault>
+    ensures ok { IfOk result (λ job. job_with (map string_bytes words.now) gen ≡ Some job) }
+    ensures usage { result ≡ Err Usage → job_with (map string_bytes words.now) gen ≡ None }
+{
+    let settings = [SIZE];
+    let matches = take_options(alloc, &settings, words)?;
+    match option_number(&matches, &SIZE)? {
+        Some(size) => Ok(Job::Gen { size }),
+        None => Err(WordsFault::Usage),
+    }
 }
 
 // A number below 256 as a byte.

@@ -1,4 +1,4 @@
-// What the command `finest` answers and writes on devices in memory.
+// What the commands answer and write on devices in memory.
 use super::*;
 use std::process::Abort;
 use std::test::Fail;
@@ -257,11 +257,36 @@ fn a_mesh_is_written_leaf_by_leaf(rt: HostRuntime) -> Result<(), Fail> {
     Ok(())
 }
 
+const LEAST_CUBE: Mesh = (
+    8,
+    12,
+    "0 11 22\n25 67 78\n5 80 27\n3 14 89\n71 18 29\n74 85 32\n74 85 96\n87 1 76\n3 0 1 2\n3 0 3 1\n3 4 5 6\n3 4 6 7\n3 0 7 3\n3 0 4 7\n3 2 1 6\n3 2 6 5\n3 0 5 4\n3 0 2 5\n3 3 7 6\n3 3 6 1\n",
+);
+
+// The input and the work file, whose first calls fail, get none.
+#[test]
+fn a_mesh_is_generated(rt: HostRuntime) -> Result<(), Fail> {
+    let alloc = rt.alloc();
+    let mut input = source(alloc, b"", &[1])?;
+    let mut work = blob(alloc, 0, &[1])?;
+    let mut out = output(alloc, &[])?;
+    let words = ["gen", "--size", "1"];
+    let status = run_over(&rt, alloc, &words, &mut input, &mut work, &mut out)?;
+    assert_eq!(rt; status, Status::Ok);
+    assert!(rt; is_unread(&mut input));
+    assert_eq!(rt; work.len(), Err(Failed));
+    assert_eq!(rt; out.part_count(), 1);
+    assert_eq!(rt; out.part_at(0), mesh_text(alloc, LEAST_CUBE)?.as_bytes());
+    assert_eq!(rt; out.notes(), b"gen size 1 tris 12\n".as_slice());
+    Ok(())
+}
+
 #[test]
 fn other_words_are_refused_without_a_call_of_a_device(rt: HostRuntime) -> Result<(), Fail> {
     let alloc = rt.alloc();
-    let others: [&[&str]; 5] = [
+    let others: [&[&str]; 6] = [
         &[],
+        &["gen"],
         &["finset"],
         &["Finest"],
         &["finest", "finest"],

@@ -33,7 +33,10 @@ fn with_cap(cap: u32) -> Job {
 #[test]
 fn words_in_the_grammar_give_their_job(rt: HostRuntime) -> Result<(), Fail> {
     let alloc = rt.alloc();
-    let rows: [(&[&str], Job); 14] = [
+    let rows: [(&[&str], Job); 17] = [
+        (&["gen", "--size", "1"], Job::Gen { size: 1 }),
+        (&["gen", "--size=500"], Job::Gen { size: 500 }),
+        (&["gen", "--size=0000000500"], Job::Gen { size: 500 }),
         (&["finest"], NO_OPTION),
         (&["finest", "--digits", "0"], with_digits(0)),
         (&["finest", "--digits=0"], with_digits(0)),
@@ -76,7 +79,16 @@ fn words_in_the_grammar_give_their_job(rt: HostRuntime) -> Result<(), Fail> {
 #[test]
 fn words_outside_the_grammar_are_usage(rt: HostRuntime) -> Result<(), Fail> {
     let alloc = rt.alloc();
-    let rows: [&[&str]; 59] = [
+    let rows: [&[&str]; 68] = [
+        &["gen"],
+        &["gen", "1"],
+        &["gen", "--size"],
+        &["gen", "--size="],
+        &["gen", "--size=0"],
+        &["gen", "--size=501"],
+        &["gen", "--size=1", "--size=1"],
+        &["gen", "--size=1", "--cap=1"],
+        &["gen", "finest", "--size=1"],
         &[],
         &[""],
         &["finset"],

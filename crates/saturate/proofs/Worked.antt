@@ -1,7 +1,6 @@
 -- The error and the box of a record with two kids, and the own error of two moves.
 use Rattle.std.proofs.Common.{◌≡◌, ℕ, [], ◌∷◌, refl}
 use Rattle.tpz_base.specs.declared.shape.Cell.{Cell}
-use Rattle.tpz_base.specs.declared.shape.Point.{Point}
 use Rattle.tpz_base.specs.Points.{point}
 use Rattle.tetra_name.specs.declared.shape.Half.{Half}
 use Rattle.diamond_graph.specs.declared.record.Record.{Record}

@@ -1,4 +1,4 @@
-use Rattle.std.proofs.Common.{◌≡◌, ◌≤◌, ◌+◌, ◌*◌, ◌^◌, ◌∙◌, Some, slice_get, sym, ap, subst, arith}
+use Rattle.std.proofs.Common.{◌≡◌, ◌∙◌, Some, slice_get, ap, arith}
 use Rattle.tetra_name.specs.Names.{point_of}
 use Rattle.diamond_graph.specs.declared.record.Record.{Record}
 use Rattle.diamond_graph.specs.Graphs.{GraphState}

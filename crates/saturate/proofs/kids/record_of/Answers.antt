@@ -1,9 +1,8 @@
-use Rattle.std.proofs.Common.{◌≡◌, ◌∷◌, [], map, refl, sym, ap, ◌∙◌}
+use Rattle.std.proofs.Common.{◌∷◌, [], sym, ap, ◌∙◌}
 use Rattle.std.proofs.lemmas.Option.{get_or_from_slice_get}
 use Rattle.diamond_graph.specs.declared.record.Record.{Record}
 use Rattle.diamond_graph.proofs.FaultLaw.{record_found, record_missing}
 use Rattle.tetra_name.specs.Names.{point_of}
-use Rattle.diamond_graph.specs.Saturated.{records_at}
 use Rattle.saturate.specs.Raised.{looked_at}
 use Rattle.saturate.proofs.Raising.{distinct_centres}
 use Rattle.saturate.proofs.kids.record_of.Goals as goal

@@ -1,8 +1,6 @@
-use Rattle.std.proofs.Common.{◌≡◌, ◌<◌, ◌∙◌, refl, map, take, length, max, fold, sym, ap, subst, arith}
+use Rattle.std.proofs.Common.{◌≡◌, ◌<◌, ◌∙◌, refl, map, take, length, fold, sym, ap, subst, arith}
 use Rattle.std.specs.Prelude.{flat_map}
 use Rattle.std.specs.Option.{option_to_list}
-use Rattle.std.proofs.lemmas.List.{length-map, take_all}
-use Rattle.tpz_base.specs.Tetrahedra.{kids}
 use Rattle.tetra_name.specs.Names.{point_of}
 use Rattle.diamond_graph.specs.Graphs.{GraphState, IsGraph}
 use Rattle.diamond_graph.specs.Saturated.{records_at}

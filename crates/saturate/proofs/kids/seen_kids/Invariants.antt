@@ -1,4 +1,4 @@
-use Rattle.std.proofs.Common.{◌≡◌, map, take, fold}
+use Rattle.std.proofs.Common.{◌≡◌, map, take}
 use Rattle.std.specs.Prelude.{flat_map}
 use Rattle.tetra_name.specs.Names.{point_of}
 use Rattle.diamond_graph.specs.Saturated.{records_at, greatest_err}

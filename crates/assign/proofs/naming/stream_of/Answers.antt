@@ -1,7 +1,7 @@
 -- The stream was made, and its name set.
 use Rattle.std.proofs.Common.{◌∙◌, sym}
-use Rattle.split_pass.proofs.Naming.{named_now}
-use Rattle.split_pass.proofs.place.stream_of.Goals as goal
+use Rattle.assign.proofs.NameTables.{named_now}
+use Rattle.assign.proofs.naming.stream_of.Goals as goal
 
 pub returns-clause-stream : goal.returns-clause-stream
 returns-clause-stream c =

@@ -1,0 +1,28 @@
+use Rattle.std.proofs.Common.{◌∙◌, refl, sym, true≢false}
+use Rattle.std.proofs.lemmas.Result.{IfOk-weaker}
+use Rattle.puzzle_cli.specs.Words.{finest, gen}
+use Rattle.puzzle_cli.proofs.OptionTables.{asked_named, asked_other}
+use Rattle.puzzle_cli.proofs.jobs.read_command.Goals as goal
+
+pub returns-then-is_named-clause-ok : goal.returns-then-is_named-clause-ok
+returns-then-is_named-clause-ok c =
+    let is = asked_named finest _ _ refl (c.is_named.ensures.0 c.if-is_named.true) in
+    IfOk-weaker c.read_finest.result _ _ (λ job e. is ∙ e) c.read_finest.ensures.ok
+
+pub returns-then-is_named-clause-usage : goal.returns-then-is_named-clause-usage
+returns-then-is_named-clause-usage c usage = asked_named finest _ _ refl (c.is_named.ensures.0 c.if-is_named.true) ∙ c.read_finest.ensures.usage usage
+
+pub returns-then-is_named-2-clause-ok : goal.returns-then-is_named-2-clause-ok
+returns-then-is_named-2-clause-ok c =
+    let is = asked_named gen _ _ refl (c.is_named-2.ensures.0 c.if-is_named-2.true) in
+    IfOk-weaker c.read_gen.result _ _ (λ job e. is ∙ e) c.read_gen.ensures.ok
+
+pub returns-then-is_named-2-clause-usage : goal.returns-then-is_named-2-clause-usage
+returns-then-is_named-2-clause-usage c usage = asked_named gen _ _ refl (c.is_named-2.ensures.0 c.if-is_named-2.true) ∙ c.read_gen.ensures.usage usage
+
+pub returns-clause-usage : goal.returns-clause-usage
+returns-clause-usage c usage =
+    asked_other _ _ (
+      λ e. true≢false (sym (c.is_named.ensures.1 e) ∙ c.if-is_named.false),
+      (λ e. true≢false (sym (c.is_named-2.ensures.1 e) ∙ c.if-is_named-2.false), tt),
+    )
