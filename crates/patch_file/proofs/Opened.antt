@@ -1,6 +1,6 @@
 -- The parts of a store that were read are those of some bytes that are read as a store.
-use Rattle.std.proofs.Common.{◌≡◌, ℕ, ◌+◌, ◌-◌, ◌*◌, ◌^◌, ◌<◌, ◌≤◌, Bool, false, not, List, [], ◌∷◌, ◌++◌, length, take, drop, replicate, map, refl, sym, ◌∙◌, ap, ap₂, subst, arith, Option, Some, None, Result, Ok, Err, All, length-append, append_assoc}
-use Rattle.std.specs.Prelude.{flat_map, find, is_ok}
+use Rattle.std.proofs.Common.{◌≡◌, ℕ, ◌+◌, ◌-◌, ◌*◌, ◌^◌, ◌<◌, ◌≤◌, Bool, false, List, [], ◌++◌, length, take, drop, replicate, map, refl, sym, ◌∙◌, ap, ap₂, subst, arith, Option, Some, None, Result, Ok, Err, All, length-append, append_assoc}
+use Rattle.std.specs.Prelude.{flat_map, is_ok}
 use Rattle.std.specs.Option.{ForSome, option_or, option_map}
 use Rattle.std.specs.List.{range_with_len}
 use Rattle.std.proofs.Math.Seq.{drop-append_seam, take-append_seam}
@@ -21,8 +21,8 @@ use Rattle.patch_file.specs.declared.entry.Place.{Place}
 use Rattle.patch_file.specs.Tables.{Contents}
 use Rattle.patch_file.specs.Bytes.{Bytes}
 use Rattle.patch_file.specs.Blocks.{base_of}
-use Rattle.patch_file.specs.Stores.{read, level_bits, base_at, records_of, numbers, record_count, record_at, record_fields, with_base, table_of}
-use Rattle.patch_file.specs.Reading.{IsPiece, HasPiece, IsFit, IsHeadOf, IsHeadRight, IsPlaced, AreEntriesOf, ReaderState, IsOpened, IsReader, RefusesGraph, is_spent, graph_of, place_in}
+use Rattle.patch_file.specs.Stores.{read, level_bits, base_at, records_of, numbers, record_at, record_fields, with_base}
+use Rattle.patch_file.specs.Reading.{IsPiece, HasPiece, IsFit, IsHeadOf, IsHeadRight, IsPlaced, AreEntriesOf, ReaderState, IsOpened, IsReader, RefusesGraph, is_spent, place_in}
 use Rattle.patch_file.proofs.HeadLaw.{wrong}
 use Rattle.patch_file.proofs.OpeningLaw.{read_to_base, read_graph}
 

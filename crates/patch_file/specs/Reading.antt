@@ -1,7 +1,7 @@
 -- What a reader of a store holds, and the bytes that it is one of.
 use Rattle.std.specs.Prelude.{◌≡◌, ◌≤◌, ◌<◌, All, ℕ, ◌+◌, ◌*◌, ◌^◌, Bool, true, false, not, List, [], ◌++◌, length, take, drop, map, find, flat_map, nat_lt, ◌==◌, if◌then◌else◌, suc, Option, None, Some, Result, Ok, Err, slice_range, nat_le, unsigned_abs}
-use Rattle.std.specs.Option.{ForSome, option_map, option_map_or, option_or}
-use Rattle.std.specs.List.{list_all, slice_get, range_with_len}
+use Rattle.std.specs.Option.{ForSome, option_map, option_or}
+use Rattle.std.specs.List.{list_all, range_with_len}
 use Rattle.tpz_base.specs.Meshes.{Mesh}
 use Rattle.tpz_base.specs.Tetrahedra.{members}
 use Rattle.tetra_name.specs.Names.{point_of, IsBound}

@@ -1,41 +1,44 @@
 // A worked store is opened, and its blocks are read.
+ghost use Rattle.std.specs.Prelude.{◌≤◌};
+
 use super::*;
-use std::alloc::Global;
+use crate::writer_tests::SQUARE;
+use std::alloc::{AllocError, Global};
 use std::process::Abort;
 use std::test::Fail;
 use tpz_io::MemBlob;
 
-/// A square with its middle, of four triangles, in two records.
-const SQUARE: [u8; 616] = [
-    84, 80, 90, 49, 1, 2, 0, 0, 0, 0, 0, 0, 0, 0, 0, 0, 0, 0, 0, 0, 0, 0, 0, 0, 0, 0, 0, 0, 0, 0,
-    0, 0, 4, 0, 0, 0, 0, 0, 0, 0, 0, 0, 0, 0, 0, 0, 0, 0, 1, 0, 0, 0, 0, 128, 0, 0, 2, 0, 0, 0, 0,
-    0, 0, 0, 8, 2, 0, 0, 0, 0, 0, 0, 104, 2, 0, 0, 0, 0, 0, 0, 4, 0, 0, 0, 4, 0, 0, 0, 4, 0, 0, 0,
-    0, 0, 0, 0, 2, 0, 0, 0, 0, 0, 0, 0, 0, 0, 0, 0, 0, 0, 0, 0, 0, 0, 0, 0, 4, 0, 0, 0, 4, 0, 0, 0,
-    2, 0, 0, 0, 140, 1, 0, 0, 0, 0, 0, 0, 124, 0, 0, 0, 0, 0, 0, 0, 4, 0, 0, 0, 4, 0, 0, 0, 0, 0,
-    0, 0, 2, 0, 0, 0, 2, 0, 0, 0, 0, 0, 0, 0, 0, 0, 0, 0, 0, 0, 0, 0, 0, 0, 0, 0, 4, 0, 0, 0, 4, 0,
-    0, 0, 0, 0, 0, 0, 208, 0, 0, 0, 0, 0, 0, 0, 188, 0, 0, 0, 0, 0, 0, 0, 1, 0, 0, 0, 0, 0, 0, 0,
-    0, 0, 0, 0, 0, 0, 0, 0, 4, 0, 0, 0, 0, 0, 0, 0, 0, 0, 0, 0, 2, 0, 0, 0, 2, 0, 0, 0, 0, 0, 0, 0,
-    1, 0, 0, 0, 4, 0, 0, 0, 0, 0, 0, 0, 0, 0, 0, 0, 4, 0, 0, 0, 4, 0, 0, 0, 0, 0, 0, 0, 2, 0, 0, 0,
-    2, 0, 0, 0, 0, 0, 0, 0, 1, 0, 0, 0, 0, 0, 0, 0, 4, 0, 0, 0, 0, 0, 0, 0, 0, 0, 0, 0, 0, 0, 0, 0,
-    0, 0, 0, 0, 2, 0, 0, 0, 2, 0, 0, 0, 0, 0, 0, 0, 1, 0, 0, 0, 4, 0, 0, 0, 4, 0, 0, 0, 0, 0, 0, 0,
-    0, 0, 0, 0, 4, 0, 0, 0, 0, 0, 0, 0, 2, 0, 0, 0, 2, 0, 0, 0, 0, 0, 0, 0, 1, 0, 0, 0, 2, 0, 0, 0,
-    2, 0, 0, 0, 0, 0, 0, 0, 0, 0, 0, 0, 0, 0, 0, 0, 0, 0, 0, 0, 1, 0, 0, 0, 4, 0, 0, 0, 0, 0, 0, 0,
-    0, 0, 0, 0, 4, 0, 0, 0, 4, 0, 0, 0, 0, 0, 0, 0, 0, 0, 0, 0, 0, 0, 0, 0, 0, 0, 0, 0, 0, 0, 0, 0,
-    0, 0, 0, 0, 0, 0, 0, 0, 1, 0, 0, 0, 4, 0, 0, 0, 4, 0, 0, 0, 0, 0, 0, 0, 0, 0, 0, 0, 4, 0, 0, 0,
-    0, 0, 0, 0, 0, 0, 0, 0, 0, 0, 0, 0, 0, 0, 0, 0, 0, 0, 0, 0, 0, 0, 0, 0, 0, 0, 0, 0, 0, 0, 0, 0,
-    0, 0, 0, 0, 0, 0, 0, 0, 0, 0, 0, 0, 0, 0, 0, 0, 1, 0, 0, 0, 4, 0, 0, 0, 0, 0, 0, 0, 0, 0, 0, 0,
-    4, 0, 0, 0, 4, 0, 0, 0, 0, 0, 0, 0, 0, 0, 0, 0, 0, 0, 0, 0, 0, 0, 0, 0, 0, 0, 0, 0, 1, 0, 0, 0,
-    4, 0, 0, 0, 4, 0, 0, 0, 0, 0, 0, 0, 0, 0, 0, 0, 4, 0, 0, 0, 0, 0, 0, 0, 0, 0, 0, 0, 0, 0, 0, 0,
-    0, 0, 0, 0, 0, 0, 0, 0, 0, 0, 0, 0, 0, 0, 0, 0,
-];
+/// The store of the square with this byte at a place.
+fn changed(alloc: Global, at: usize, byte: u8) -> Result<Vec<u8>, AllocError> {
+    let mut bytes = SQUARE.to_vec(alloc)?;
+    if at < bytes.len() {
+        bytes[at] = byte;
+    }
+    Ok(bytes)
+}
 
-/// No records: the base alone.
-const NOTHING: [u8; 104] = [
-    84, 80, 90, 49, 1, 1, 0, 0, 0, 0, 0, 0, 0, 0, 0, 0, 0, 0, 0, 0, 0, 0, 0, 0, 0, 0, 0, 0, 0, 0,
-    0, 0, 0, 0, 0, 0, 0, 0, 0, 0, 0, 0, 0, 0, 0, 0, 0, 0, 1, 0, 0, 0, 1, 0, 0, 0, 0, 0, 0, 0, 0, 0,
-    0, 0, 80, 0, 0, 0, 0, 0, 0, 0, 104, 0, 0, 0, 0, 0, 0, 0, 0, 0, 0, 0, 0, 0, 0, 0, 0, 0, 0, 0, 0,
-    0, 0, 0, 0, 0, 0, 0, 0, 0, 0, 0,
-];
+/// A store without records: a header, and six empty patches.
+fn without_records(alloc: Global) -> Result<Vec<u8>, AllocError> {
+    let mut bytes = Vec::new(alloc);
+    bytes.resize(104, 0)?;
+    for (at, byte) in [
+        (0, 84),
+        (1, 80),
+        (2, 90),
+        (3, 49),
+        (4, 1),
+        (5, 1),
+        (48, 1),
+        (52, 1),
+        (64, 80),
+        (72, 104),
+    ] {
+        if at < bytes.len() {
+            bytes[at] = byte;
+        }
+    }
+    Ok(bytes)
+}
 
 /// Opens a store in memory whose calls with these numbers fail, and gives the number of its records.
 fn open(
@@ -55,28 +58,28 @@ fn open(
 }
 
 #[test]
-fn stores_are_opened_within_their_tries(rt: HostRuntime) -> Result<(), Fail> {
+fn a_store_is_opened_within_its_tries(rt: HostRuntime) -> Result<(), Fail> {
     let alloc = rt.alloc();
-    let rows: [(&[u8], &[u64], u32, Result<u32, OpenFault>); 5] = [
-        (&SQUARE, &[], 1, Ok(2)),
-        (&NOTHING, &[], 1, Ok(0)),
-        (&SQUARE, &[1, 3], 2, Ok(2)),
-        (&SQUARE, &[1, 2], 2, Err(OpenFault::ReadFault)),
-        (&SQUARE, &[4], 1, Err(OpenFault::ReadFault)),
-    ];
-    for (bytes, fails, tries, answer) in rows {
-        assert_eq!(rt; open(alloc, bytes, fails, tries)?, answer);
-    }
+    let bytes = changed(alloc, 0, 84)?;
+    assert_eq!(rt; open(alloc, &bytes, &[], 1)?, Ok(2));
+    assert_eq!(rt; open(alloc, &bytes, &[1, 3], 2)?, Ok(2));
+    assert_eq!(rt; open(alloc, &bytes, &[1, 2], 2)?, Err(OpenFault::ReadFault));
+    assert_eq!(rt; open(alloc, &bytes, &[4], 1)?, Err(OpenFault::ReadFault));
+    assert_eq!(rt; open(alloc, &without_records(alloc)?, &[], 1)?, Ok(0));
     Ok(())
 }
 
-/// Opens the square with one byte changed.
-fn open_changed(alloc: Global, at: usize, byte: u8) -> Result<Result<u32, OpenFault>, Fail>
-    requires { at < 616 }
-{
-    let mut bytes = SQUARE;
-    bytes[at] = byte;
-    open(alloc, &bytes, &[], 1)
+/// Opens the store of the square with one byte changed.
+fn check_changed(
+    rt: &impl Abort,
+    alloc: Global,
+    at: usize,
+    byte: u8,
+    bad: StoreBad,
+) -> Result<(), Fail> {
+    let bytes = changed(alloc, at, byte)?;
+    assert_eq!(rt; open(alloc, &bytes, &[], 1)?, Err(OpenFault::Bad(bad)));
+    Ok(())
 }
 
 #[test]
@@ -93,32 +96,32 @@ fn a_damaged_store_is_refused_by_its_first_damage(rt: HostRuntime) -> Result<(),
         (520, 2, StoreBad::BadBlock { rec: 2, offset: 40 }),
     ];
     for (at, byte, bad) in rows {
-        assert_eq!(rt; open_changed(alloc, at, byte)?, Err(OpenFault::Bad(bad)));
-    }
-    for len in [103, 615] {
-        let bad = StoreBad::Short { len: len as u64 };
-        assert_eq!(rt;
-            open(alloc, &SQUARE[..len], &[], 1)?,
-            Err(OpenFault::Bad(bad))
-        );
+        check_changed(&rt, alloc, at, byte, bad)?;
     }
     Ok(())
 }
 
-/// How many patches and moves the block of a record of the square has, where one byte is changed.
+#[test]
+fn a_store_that_is_cut_is_too_short(rt: HostRuntime) -> Result<(), Fail> {
+    let alloc = rt.alloc();
+    let mut bytes = changed(alloc, 0, 84)?;
+    for len in [615, 104, 103, 0] {
+        bytes.truncate(len);
+        let bad = StoreBad::Short { len: len as u64 };
+        assert_eq!(rt; open(alloc, &bytes, &[], 1)?, Err(OpenFault::Bad(bad)));
+    }
+    Ok(())
+}
+
+/// How many patches and moves the block of a record has, in a store whose calls with these numbers fail.
 fn block(
     rt: &impl Abort,
     alloc: Global,
-    at: usize,
-    byte: u8,
+    bytes: &[u8],
     i: u32,
     fails: &[u64],
-) -> Result<Result<(u8, usize), BlockFault>, Fail>
-    requires { at < 616 }
-{
-    let mut bytes = SQUARE;
-    bytes[at] = byte;
-    let mut store = MemBlob::new(alloc, &bytes, 0, fails.to_vec(alloc)?)?;
+) -> Result<Result<(u8, usize), BlockFault>, Fail> {
+    let mut store = MemBlob::new(alloc, bytes, 0, fails.to_vec(alloc)?)?;
     let Ok((reader, _graph)) = StoreReader::open(alloc, &mut store, 1) else {
         return Ok(Err(BlockFault::Memory));
     };
@@ -132,12 +135,20 @@ fn block(
 #[test]
 fn a_block_is_read_or_refused_at_its_first_damage(rt: HostRuntime) -> Result<(), Fail> {
     let alloc = rt.alloc();
-    let bad = |rec, offset| Err(BlockFault::Bad(StoreBad::BadBlock { rec, offset }));
-    assert_eq!(rt; block(&rt, alloc, 0, 84, 0, &[])?, Ok((12, 0)));
-    assert_eq!(rt; block(&rt, alloc, 0, 84, 1, &[])?, Ok((4, 1)));
-    assert_eq!(rt; block(&rt, alloc, 0, 84, 1, &[5])?, Err(BlockFault::Failed));
-    assert_eq!(rt; block(&rt, alloc, 516, 1, 0, &[])?, bad(0, 124));
-    assert_eq!(rt; block(&rt, alloc, 212, 4, 1, &[])?, bad(1, 4));
-    assert_eq!(rt; block(&rt, alloc, 396, 3, 0, &[])?, bad(0, 76));
+    let bytes = changed(alloc, 0, 84)?;
+    assert_eq!(rt; block(&rt, alloc, &bytes, 0, &[])?, Ok((12, 0)));
+    assert_eq!(rt; block(&rt, alloc, &bytes, 1, &[])?, Ok((4, 1)));
+    assert_eq!(rt;
+        block(&rt, alloc, &bytes, 1, &[5])?,
+        Err(BlockFault::Failed)
+    );
+    for (at, byte, rec, offset) in [(516, 1, 0, 124), (212, 4, 1, 4), (396, 3, 0, 76)] {
+        let bytes = changed(alloc, at, byte)?;
+        let bad = StoreBad::BadBlock { rec, offset };
+        assert_eq!(rt;
+            block(&rt, alloc, &bytes, rec, &[])?,
+            Err(BlockFault::Bad(bad))
+        );
+    }
     Ok(())
 }

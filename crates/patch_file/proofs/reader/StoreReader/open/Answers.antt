@@ -1,9 +1,9 @@
-use Rattle.std.proofs.Common.{◌≡◌, ◌*◌, ◌-◌, ◌<◌, ◌^◌, length, ◌∙◌, sym, subst, arith, rules, refl, ap, Option, Err, true, All}
+use Rattle.std.proofs.Common.{◌≡◌, ◌*◌, ◌-◌, ◌<◌, ◌^◌, length, ◌∙◌, sym, subst, arith, rules, Option, Err, true, All}
 use Rattle.patch_file.specs.declared.entry.Entries.{Entries}
 use Rattle.patch_file.specs.Tables.{Contents}
 use Rattle.patch_file.specs.Bytes.{Bytes}
-use Rattle.patch_file.specs.Reading.{HasPiece, IsPlaced}
-use Rattle.patch_file.proofs.Opened.{whole, opened, First, Second, Last, kept, graph_refused, base_refused, retyped, asked_err, rose_err}
+use Rattle.patch_file.specs.Reading.{HasPiece}
+use Rattle.patch_file.proofs.Opened.{whole, opened, Second, Last, kept, graph_refused, base_refused, retyped, asked_err, rose_err}
 use Rattle.patch_file.proofs.AskingLaw.{asked_both, asked_some, asked_any}
 use Rattle.diamond_graph.specs.Graphs.{GraphState, IsStored}
 use Rattle.diamond_graph.specs.Saturated.{AreSaturated}
