@@ -12,3 +12,4 @@ pub mod SideSign
 pub mod Volumes
 pub mod RootLaw
 mod WorkedPaths
+pub mod NameTables

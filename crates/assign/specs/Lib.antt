@@ -6,3 +6,4 @@ pub mod Near
 pub mod Names
 pub mod Splits
 pub mod Standing
+pub mod Naming

@@ -6,6 +6,7 @@
 
 mod leaf;
 mod leaves;
+mod naming;
 mod near;
 mod plane;
 mod root;
@@ -13,6 +14,7 @@ mod sum;
 
 pub use leaf::leaf_of;
 pub use leaves::{Leaves, Split};
+pub use naming::stream_of;
 pub use near::nearest;
 pub use plane::side;
 pub use root::root_of;

@@ -1,13 +1,13 @@
 -- Every signed edge sum of a generated mesh is 0: the edges within a side cancel square by square, and the rims of the sides cancel along the twelve edges of the cube.
-use Rattle.std.proofs.Common.{◌≡◌, ℕ, zero, suc, ◌+◌, ◌*◌, Bool, true, false, cond, ◌&&◌, List, [], ◌∷◌, ◌++◌, refl, sym, ◌∙◌, ap, ap₂, arith}
-use Rattle.std.specs.Prelude.{ℤ, pos, ◌-ℤ◌, flat_map, sum_by, count_by}
+use Rattle.std.proofs.Common.{◌≡◌, ℕ, zero, suc, ◌+◌, ◌*◌, Bool, true, false, cond, ◌&&◌, [], ◌∷◌, refl, sym, ◌∙◌, ap, ap₂, arith}
+use Rattle.std.specs.Prelude.{pos, ◌-ℤ◌, flat_map, sum_by}
 use Rattle.std.specs.List.{range_with_len}
 use Rattle.std.proofs.lemmas.List.Sums.{sum_by-cons}
 use Rattle.std.proofs.lemmas.Int.{ints}
 use Rattle.tpz_base.specs.declared.shape.Point.{Point}
 use Rattle.tpz_base.specs.declared.shape.Tri.{Tri}
 use Rattle.tpz_base.specs.Points.{point, point_eq}
-use Rattle.tpz_base.specs.Meshes.{Mesh, Edge, triangle, edge_eq, edges_of, edge_count, edge_sum}
+use Rattle.tpz_base.specs.Meshes.{Mesh, Edge, triangle, edge_eq, edge_count, edge_sum}
 use Rattle.tpz_base.proofs.SumLemmas.{sum_by-flat_map, sum_by_same_all}
 use Rattle.mesh_gen.specs.Generator.{placed, on_axes, corner_of, halves, square, side_of, generated}
 

@@ -1,5 +1,5 @@
 -- The mesh of size 1, vertex by vertex and face by face, and the number of triangles of that of size 2.
-use Rattle.std.proofs.Common.{◌≡◌, ℕ, List, [], ◌∷◌, map, length, refl}
+use Rattle.std.proofs.Common.{◌≡◌, ℕ, [], ◌∷◌, map, length, refl}
 use Rattle.tpz_base.specs.Points.{point}
 use Rattle.tpz_base.specs.Texts.{Face, vertices, face_in}
 use Rattle.mesh_gen.specs.Generator.{generated}

@@ -1,11 +1,11 @@
 -- Calls that ask a store, one after another.
-use Rattle.std.proofs.Common.{◌≡◌, ℕ, zero, suc, ◌+◌, ◌-◌, ◌*◌, ◌^◌, ◌<◌, ◌≤◌, min, max, Bool, true, false, cond, not, List, [], ◌∷◌, ◌++◌, length, replicate, refl, sym, ◌∙◌, ap, subst, arith, Option, Some, None, append_assoc, length-append}
+use Rattle.std.proofs.Common.{◌≡◌, ℕ, zero, suc, ◌+◌, ◌*◌, ◌<◌, ◌≤◌, Bool, true, false, cond, not, List, [], ◌∷◌, ◌++◌, length, replicate, refl, sym, ◌∙◌, ap, subst, arith, Option, Some, None, append_assoc, length-append}
 use Rattle.std.proofs.lemmas.List.Sums.{sum_by-append}
 use Rattle.std.proofs.lemmas.List.{length-replicate}
 use Rattle.std.proofs.Math.Nat.{add-mul, mul-le-mul_right}
 use Rattle.tpz_io.specs.Causes.{Rose, one_more}
 use Rattle.tpz_io.specs.Told.{Notes}
-use Rattle.patch_file.specs.Asking.{risen, RoseBy, NotesAll, failures, Asks, IsTried, HasTried, HasAsked}
+use Rattle.patch_file.specs.Asking.{RoseBy, NotesAll, failures, Asks, HasTried, HasAsked}
 
 pub failures_both : (a b : List Bool) → failures (a ++ b) ≡ failures a + failures b
 failures_both a b = sum_by-append (λ x. cond (not x) 1 0) a b

@@ -1,9 +1,9 @@
 -- What is read of bytes is right, and has their length.
-use Rattle.std.proofs.Common.{◌≡◌, ℕ, zero, suc, ◌+◌, ◌-◌, ◌*◌, ◌^◌, ◌<◌, ◌≤◌, Bool, true, false, cond, ◌&&◌, List, [], ◌∷◌, ◌++◌, length, take, drop, get_or, refl, sym, ◌∙◌, ap, subst, arith, Option, Some, None, Result, Ok, Err, length-append, length-drop}
+use Rattle.std.proofs.Common.{◌≡◌, ℕ, zero, suc, ◌+◌, ◌*◌, ◌^◌, ◌<◌, ◌≤◌, Bool, true, false, cond, ◌&&◌, List, [], ◌∷◌, length, take, drop, get_or, refl, sym, ◌∙◌, ap, subst, arith, Option, Some, None, Result, Ok, Err, length-append, length-drop}
 use Rattle.std.specs.Prelude.{flat_map, nat_le, nat_lt, ◌==◌}
 use Rattle.std.specs.List.{list_all}
 use Rattle.std.proofs.lemmas.Bool.{and_parts, and_from, leb-true, lt-ltb, le-ltb, eq-eqb}
-use Rattle.std.proofs.lemmas.List.{drop-drop, get_or-drop}
+use Rattle.std.proofs.lemmas.List.{get_or-drop}
 use Rattle.std.proofs.Math.Nat.{pow-suc}
 use Rattle.tpz_base.specs.declared.shape.Move.{Move}
 use Rattle.tpz_base.specs.Meshes.{Mesh}
@@ -229,3 +229,11 @@ module _ (l : ℕ) where
       to_the_end (length bs) (record { item = record { patches = r.item; moves = s.item }; at = s.at; rest = s.rest })))) h
       ∙ ap (λ (q : Result (Read (List Move)) ℕ). and_then q (λ (s : Read (List Move)). to_the_end (length bs) (record { item = record { patches = ps; moves = s.item }; at = s.at; rest = s.rest }))) k
       ∙ ap (λ (b : Bool). cond b (Err (length bs)) (Ok (record { patches = ps; moves = ms }))) none
+
+  -- six patches up to the end
+  pub base_made : (bs : Bytes) (ps : List Mesh) (e : ℕ) → read_patches l 6 0 bs ≡ Ok (record { item = ps; at = e; rest = drop e bs }) → length bs ≤ e → base_of l bs ≡ Ok ps
+  base_made bs ps e h far =
+      let d = length-drop e bs in
+      let none : nat_lt 0 (length (drop e bs)) ≡ false = le-ltb 0 (length (drop e bs)) (omega arith) in
+      ap (λ (q : Result (Read (List Mesh)) ℕ). and_then q (to_the_end (length bs))) h
+      ∙ ap (λ (b : Bool). cond b (Err (length bs)) (Ok ps)) none

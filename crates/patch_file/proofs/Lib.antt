@@ -16,3 +16,10 @@ pub mod OpeningLaw
 pub mod Members
 pub mod BlockPlace
 pub mod Opened
+pub mod Appending
+pub mod GateLaw
+pub mod WriterSteps
+pub mod WritingLaw
+pub mod Unfinished
+pub mod Distances
+pub mod RepresentedLaw

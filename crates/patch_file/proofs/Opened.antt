@@ -1,6 +1,6 @@
 -- The parts of a store that were read are those of some bytes that are read as a store.
-use Rattle.std.proofs.Common.{◌≡◌, ℕ, ◌+◌, ◌-◌, ◌*◌, ◌≤◌, Bool, false, not, List, [], ◌∷◌, ◌++◌, length, take, drop, replicate, map, refl, sym, ◌∙◌, ap, ap₂, subst, arith, Option, Some, None, Result, Ok, Err, All, length-append, append_assoc}
-use Rattle.std.specs.Prelude.{flat_map, find, is_ok}
+use Rattle.std.proofs.Common.{◌≡◌, ℕ, ◌+◌, ◌-◌, ◌*◌, ◌^◌, ◌<◌, ◌≤◌, Bool, false, List, [], ◌++◌, length, take, drop, replicate, map, refl, sym, ◌∙◌, ap, ap₂, subst, arith, Option, Some, None, Result, Ok, Err, All, length-append, append_assoc}
+use Rattle.std.specs.Prelude.{flat_map, is_ok}
 use Rattle.std.specs.Option.{ForSome, option_or, option_map}
 use Rattle.std.specs.List.{range_with_len}
 use Rattle.std.proofs.Math.Seq.{drop-append_seam, take-append_seam}
@@ -21,8 +21,8 @@ use Rattle.patch_file.specs.declared.entry.Place.{Place}
 use Rattle.patch_file.specs.Tables.{Contents}
 use Rattle.patch_file.specs.Bytes.{Bytes}
 use Rattle.patch_file.specs.Blocks.{base_of}
-use Rattle.patch_file.specs.Stores.{read, level_bits, base_at, records_of, numbers, record_count, record_at, record_fields, with_base, table_of}
-use Rattle.patch_file.specs.Reading.{IsPiece, HasPiece, IsFit, IsHeadOf, IsHeadRight, IsPlaced, AreEntriesOf, ReaderState, IsOpened, RefusesGraph, is_spent, graph_of, place_in}
+use Rattle.patch_file.specs.Stores.{read, level_bits, base_at, records_of, numbers, record_at, record_fields, with_base}
+use Rattle.patch_file.specs.Reading.{IsPiece, HasPiece, IsFit, IsHeadOf, IsHeadRight, IsPlaced, AreEntriesOf, ReaderState, IsOpened, IsReader, RefusesGraph, is_spent, place_in}
 use Rattle.patch_file.proofs.HeadLaw.{wrong}
 use Rattle.patch_file.proofs.OpeningLaw.{read_to_base, read_graph}
 
@@ -177,3 +177,10 @@ asked_err {T} U tries n r x f f' k k' o o' e h =
 
 pub rose_err : {T : Type 0} (tries n : ℕ) (r : Result T OpenFault) (f f' k k' : ℕ) (o o' : Option (List Bool)) → HasAsked tries n (is_ok r) (is_spent r) f f' k k' o o' → r ≡ Err ReadFault → RoseBy tries f f'
 rose_err {T} tries n r f f' k k' o o' h e = rose_by tries n false f f' k k' o o' (subst (λ (q : Result T OpenFault). HasAsked tries n (is_ok q) (is_spent q) f f' k k' o o') e h)
+
+-- a reader of what was read
+pub kept : (head : Head) (ps : List Place) (base : Contents) → IsFit head head.total → All (IsPlaced head.params.l head.base) ps → length ps < 2 ^ 32
+    → IsReader (record { params = head.params; places = ps; base = base; bytes = head.total })
+kept head ps base fit h few =
+    let room = fit.room in
+    record { bound = fit.bound; placed = widened head.params.l head.base head.total ps (omega arith) h; few = few; short = fit.short }

@@ -1,25 +1,22 @@
 -- What reading gives of bytes whose header, records and base are known.
-use Rattle.std.proofs.Common.{◌≡◌, ℕ, ◌+◌, ◌-◌, ◌*◌, ◌^◌, ◌<◌, ◌≤◌, Bool, true, false, not, List, [], ◌∷◌, ◌++◌, length, take, drop, replicate, map, refl, sym, ◌∙◌, ap, ap₂, subst, arith, Option, Some, None, Result, Ok, Err, length-append, length-drop}
-use Rattle.std.specs.Prelude.{IfOk, find, flat_map, nat_lt, ◌==◌, option_map}
-use Rattle.std.specs.Option.{option_or, ForSome}
-use Rattle.std.proofs.Math.Seq.{drop-append_seam, take-append_seam}
+use Rattle.std.proofs.Common.{◌≡◌, ℕ, ◌-◌, Bool, not, length, take, drop, refl, sym, ◌∙◌, ap, ap₂, arith, Option, Some, None, Result, Ok, Err, length-drop}
+use Rattle.std.specs.Prelude.{IfOk, flat_map, nat_lt, ◌==◌, option_map}
+use Rattle.std.specs.Option.{option_or}
 use Rattle.std.proofs.lemmas.List.{take_all}
 use Rattle.std.proofs.lemmas.List.Folds.{find-append}
 use Rattle.patch_file.specs.declared.head.Head.{Head}
-use Rattle.tpz_base.specs.Meshes.{Mesh}
-use Rattle.diamond_graph.specs.declared.record.Record.{Record}
 use Rattle.diamond_graph.specs.Saturated.{first_out_of_order, first_not_closed, first_not_saturated, first_fault}
 use Rattle.diamond_graph.specs.declared.fault.GraphFault.{GraphFault}
 use Rattle.diamond_graph.specs.declared.fault.GraphFault.TheVariants.{Order as GOrder, NotClosed as GNotClosed, NotSaturated as GNotSaturated}
 use Rattle.patch_file.specs.declared.shape.Params.{Params}
 use Rattle.patch_file.specs.declared.shape.StoreBad.{StoreBad}
-use Rattle.patch_file.specs.declared.shape.StoreBad.TheVariants.{Short, Magic, Unfinished, Field, Order, NotClosed, NotSaturated, BadBlock}
+use Rattle.patch_file.specs.declared.shape.StoreBad.TheVariants.{Short, Magic, Unfinished, Field, Order, NotClosed, NotSaturated}
 use Rattle.patch_file.specs.declared.fault.OpenFault.{OpenFault}
 use Rattle.patch_file.specs.declared.fault.OpenFault.TheVariants.{Bad}
 use Rattle.patch_file.specs.Tables.{Table}
 use Rattle.patch_file.specs.Bytes.{Bytes}
 use Rattle.patch_file.specs.Blocks.{number_at, base_of}
-use Rattle.patch_file.specs.Stores.{or_refused, refused_if, total, wrong_field, with_base, read, records_of, numbers, level_bits, base_at, record_count, record_fields, header_fields, table_of}
+use Rattle.patch_file.specs.Stores.{or_refused, refused_if, total, wrong_field, with_base, read, records_of, numbers, level_bits, base_at, record_fields, header_fields}
 use Rattle.patch_file.specs.Reading.{IsHeadOf, IsHeadRight, IsPiece, HasPiece, RefusesGraph}
 use Rattle.patch_file.proofs.HeadLaw.{wrong}
 

@@ -5,3 +5,8 @@ pub mod Stores
 pub mod Allowed
 pub mod Asking
 pub mod Reading
+pub mod Appended
+pub mod Writing
+pub mod Written
+pub mod Patches
+pub mod Representatives

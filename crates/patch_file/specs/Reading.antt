@@ -1,7 +1,7 @@
 -- What a reader of a store holds, and the bytes that it is one of.
-use Rattle.std.specs.Prelude.{◌≡◌, ◌≤◌, ◌<◌, All, ℕ, ◌+◌, ◌*◌, ◌^◌, Bool, true, false, not, List, [], ◌++◌, length, take, drop, map, find, flat_map, nat_lt, ◌==◌, if◌then◌else◌, suc, Option, None, Some, Result, Ok, Err, slice_range}
-use Rattle.std.specs.Option.{ForSome, option_map, option_map_or, option_or}
-use Rattle.std.specs.List.{slice_get, range_with_len}
+use Rattle.std.specs.Prelude.{◌≡◌, ◌≤◌, ◌<◌, All, ℕ, ◌+◌, ◌*◌, ◌^◌, Bool, true, false, not, List, [], ◌++◌, length, take, drop, map, find, flat_map, nat_lt, ◌==◌, if◌then◌else◌, suc, Option, None, Some, Result, Ok, Err, slice_range, nat_le, unsigned_abs}
+use Rattle.std.specs.Option.{ForSome, option_map, option_or}
+use Rattle.std.specs.List.{list_all, range_with_len}
 use Rattle.tpz_base.specs.Meshes.{Mesh}
 use Rattle.tpz_base.specs.Tetrahedra.{members}
 use Rattle.tetra_name.specs.Names.{point_of, IsBound}
@@ -20,6 +20,7 @@ use Rattle.patch_file.specs.declared.head.Head.{Head}
 use Rattle.patch_file.specs.declared.entry.Entry.{Entry}
 use Rattle.patch_file.specs.declared.entry.Place.{Place}
 use Rattle.patch_file.specs.Tables.{Contents}
+use Rattle.patch_file.specs.Allowed.{is_right_patch}
 use Rattle.patch_file.specs.Bytes.{Bytes, patch_bytes, move_bytes, counted}
 use Rattle.patch_file.specs.Blocks.{number_at, block_of}
 use Rattle.patch_file.specs.Stores.{level_bits, record_count, records_end, base_at, total, numbers, record_at, records_of, block_at, block_length, header_fields, record_fields, table_of, read}
@@ -55,8 +56,26 @@ pub record IsHeadRight (bs : Bytes) : Type 0 where
   pub whole : nat_lt (length bs) (total bs) ≡ false
   pub fields : find (λ (f : ℕ × Bool). not f.1) (header_fields bs) ≡ None
 
--- where the records, the base and the end lie in a store of this length
+-- params that a store may hold
+pub record IsRightParams (params : Params) : Type 0 where
+  pub levels : IsBound params.l
+  pub digits : params.digits ≤ 9
+  pub low : list_all (λ z. nat_le (unsigned_abs z) 2147483647) params.low ≡ true
+  pub tris : params.tris + params.dropped ≤ 2147483648
+  pub some_cap : 0 < params.cap
+  pub cap : params.cap ≤ 16777216
+  pub some_budget : 0 < params.budget
+  pub budget : params.budget ≤ 4194304
+
+-- six patches of triangles that may stand there, and no moves
+pub record IsRightBase (l : ℕ) (base : Contents) : Type 0 where
+  pub six : length base.patches ≡ 6
+  pub right : list_all (is_right_patch l) base.patches ≡ true
+  pub still : base.moves ≡ []
+
+-- params, and where the records, the base and the end lie in a store of this length
 pub record IsFit (head : Head) (len : ℕ) : Type 0 where
+  pub params : IsRightParams head.params
   pub bound : IsBound head.params.l
   pub base : 80 + 64 * head.records ≤ head.base
   pub room : head.base + 24 ≤ head.total

@@ -6,18 +6,25 @@ mod block;
 mod encode;
 mod entry;
 mod fault;
+mod gate;
 mod head;
 mod item;
 mod law;
+mod moves;
 mod number;
 mod opening;
 mod reader;
-#[cfg(test)]
-mod reader_tests;
 mod shape;
+mod tail;
+#[cfg(test)]
+mod tests;
+mod writer;
+#[cfg(test)]
+mod writer_tests;
 
 pub use block::Block;
 pub use fault::{BlockFault, OpenFault};
-pub use law::store_law;
+pub use law::{store_law, writing_law};
 pub use reader::StoreReader;
 pub use shape::{Params, StoreBad};
+pub use writer::{StoreWriter, WriteFault};

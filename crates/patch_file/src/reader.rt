@@ -1,15 +1,16 @@
 // A reader of a store: opened once, it keeps where the blocks lie, and reads them one by one.
-ghost use Rattle.std.specs.Prelude.{◌≡◌, ◌+◌, ◌*◌, ◌≤◌, ◌<◌, ◌^◌, ℕ, true, Some, Ok, Err, length, slice_get, IfOk, is_ok};
+ghost use Rattle.std.specs.Prelude.{◌≡◌, ◌+◌, ◌*◌, ◌≤◌, ◌<◌, ◌^◌, ℕ, true, Some, Ok, Err, length, slice_get, All, IfOk, is_ok};
 ghost use Rattle.std.specs.Option.{ForSome};
 ghost use Rattle.tetra_name.specs.Names.{point_of, IsBound};
 ghost use Rattle.diamond_graph.specs.Closed.{CanSplit};
+ghost use Rattle.diamond_graph.specs.Graphs.{IsStored};
 ghost use Rattle.diamond_graph.specs.Saturated.{AreSaturated};
 ghost use Rattle.tpz_io.specs.Causes.{Rose};
 ghost use Rattle.patch_file.specs.declared.shape.StoreBad.{StoreBad};
 ghost use Rattle.patch_file.specs.Allowed.{is_right_block};
 ghost use Rattle.patch_file.specs.Stores.{read};
 ghost use Rattle.patch_file.specs.Asking.{RoseBy, HasAsked};
-ghost use Rattle.patch_file.specs.Reading.{is_spent, has_failed, contents_bytes, patches_of, block_in, IsOpened};
+ghost use Rattle.patch_file.specs.Reading.{is_spent, has_failed, contents_bytes, patches_of, block_in, IsOpened, IsReader, IsRightParams, IsRightBase};
 
 use crate::block::{Block, read_block};
 use crate::entry::Place;
@@ -87,6 +88,10 @@ impl StoreReader {
         requires some { 1 ≤ tries }
         requires few { tries ≤ 100 }
         ensures opened { IfOk result (λ out. IsOpened (S.held store.old) out.0 out.1) }
+        ensures params { IfOk result (λ out. IsRightParams out.0.params) }
+        ensures records { IfOk result (λ out. All (IsStored out.0.params.l) out.1.records) }
+        ensures places { IfOk result (λ out. IsReader out.0) }
+        ensures base { IfOk result (λ out. IsRightBase out.0.params.l out.0.base) }
         ensures saturated { IfOk result (λ out. AreSaturated out.1.l out.1.records) }
         ensures bad { (bad : StoreBad) → result ≡ Err (OpenFault.Bad bad) → ForSome (S.held store.old) (λ bs. read bs ≡ Err bad) }
         ensures fault { result ≡ Err OpenFault.ReadFault → RoseBy tries (S.faults store.old) (S.faults store.new) }

@@ -282,7 +282,7 @@ pub all_read : (chosen : Option ℕ) (told left held held' : Option Bytes) (byte
 all_read chosen told left held held' bytes holds scale frame reading last tris rows faces o tells keeps same_held t means =
     let is = accepted_by chosen told left held bytes scale frame reading o tells t.faces t.all in
     let same : record { rows = o.rows; faces = t.faces } ≡ record { rows = rows; faces = faces } =
-        one_meaning (record { rows = o.rows; faces = t.faces }) (record { rows = rows; faces = faces }) (sym is ∙ means) in
+    one_meaning (record { rows = o.rows; faces = t.faces }) (record { rows = rows; faces = faces }) (sym is ∙ means) in
     let whole = t.whole holds (same_held ∙ keeps) (low_of o.rows) o.rows (frame_spots frame o.rows o.framed) (o.points holds keeps) in
     record {
       l = o.framed.l ∙ ap (λ (i : Input). level_bound i.rows) same;

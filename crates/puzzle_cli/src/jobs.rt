@@ -17,9 +17,13 @@ pub enum Job {
         cap: Option<u32>,
     },
     /// `gen`: how many squares are in a row on each side of the mesh.
-    Gen { size: u32 },
+    Gen {
+        size: u32,
+    },
     /// `info`: how often a call of the store is tried.
-    Info { tries: u32 },
+    Info {
+        tries: u32,
+    },
 }
 
 /// Why no job was read.

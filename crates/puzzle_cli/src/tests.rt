@@ -277,7 +277,7 @@ fn a_mesh_is_generated(rt: HostRuntime) -> Result<(), Fail> {
     assert_eq!(rt; work.len(), Err(Failed));
     assert_eq!(rt; out.part_count(), 1);
     assert_eq!(rt; out.part_at(0), mesh_text(alloc, LEAST_CUBE)?.as_bytes());
-    assert_eq!(rt; out.notes(), b"gen size 1 tris 12\n");
+    assert_eq!(rt; out.notes(), b"gen size 1 tris 12\n".as_slice());
     Ok(())
 }
 

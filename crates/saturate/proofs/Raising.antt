@@ -51,7 +51,7 @@ fold_kids_more f z rs ks i k kid m n at low is before after =
 
 -- what a box holds
 
-record Holds (b : Cell) (p : Point) : Type 0 where
+pub record Holds (b : Cell) (p : Point) : Type 0 where
   pub low_x : b.lo.x ≤ p.x
   pub low_y : b.lo.y ≤ p.y
   pub low_z : b.lo.z ≤ p.z
@@ -59,7 +59,7 @@ record Holds (b : Cell) (p : Point) : Type 0 where
   pub high_y : p.y ≤ b.hi.y
   pub high_z : p.z ≤ b.hi.z
 
-held : (b : Cell) (p : Point) → holds b p ≡ true → Holds b p
+pub held : (b : Cell) (p : Point) → holds b p ≡ true → Holds b p
 held b p h =
     let both = and_parts _ _ h in
     let low = and_parts _ _ both.0 in
@@ -75,7 +75,7 @@ held b p h =
       high_z = leb-true p.z b.hi.z high'.1;
     }
 
-holding : (b : Cell) (p : Point) → Holds b p → holds b p ≡ true
+pub holding : (b : Cell) (p : Point) → Holds b p → holds b p ≡ true
 holding b p h =
     and_from _ _
     (and_from _ _ (le-leb b.lo.x p.x h.low_x) (and_from _ _ (le-leb b.lo.y p.y h.low_y) (le-leb b.lo.z p.z h.low_z)))
@@ -113,7 +113,7 @@ all_hold c (j ∷ ks) k m =
 
 -- hulls of boxes of a cube
 
-hull_box : (side : ℕ) (c d : Cell) → IsBox side c → IsBox side d → IsBox side (hull c d)
+pub hull_box : (side : ℕ) (c d : Cell) → IsBox side c → IsBox side d → IsBox side (hull c d)
 hull_box side c d h k =
     let hx = h.within.0 in
     let hy = h.within.1 in
@@ -126,7 +126,7 @@ hull_box side c d h k =
     let lz = k.z in
     record { x = omega arith; y = omega arith; z = omega arith; within = (omega (arith, hx, kx, lx), omega (arith, hy, ky, ly), omega (arith, hz, kz, lz)) }
 
-all_box : (side : ℕ) (c : Cell) (ks : List Record) → IsBox side c → ((k : Record) → Member ks k → IsBox side k.cell) → IsBox side (hull_of_all c ks)
+pub all_box : (side : ℕ) (c : Cell) (ks : List Record) → IsBox side c → ((k : Record) → Member ks k → IsBox side k.cell) → IsBox side (hull_of_all c ks)
 all_box side c [] h each = h
 all_box side c (k ∷ ks) h each = all_box side (hull c k.cell) ks (hull_box side c k.cell h (each k (inl refl))) (λ j m. each j (inr m))
 
@@ -194,18 +194,24 @@ kids_stay g i r q h at same =
     let other : point_eq d k ≡ false = ne-point_eq d k apart in
     others_stay g.records i r q k at other (subst (λ x. point_eq x k ≡ false) (sym same) other))
 
-pub raised_saturated : (g : GraphState) (i : ℕ) (r : Record) (own : ℕ) (c : Cell) → IsGraph g → slice_get g.records i ≡ Some r → IsTrue (holds c (halved (centre_of r)))
-    → let q = raised r own c (kid_records g.l g.records (centre_of r)) in IsTrue (is_saturated g.l (set g.records i q) q)
+-- a record that is raised above its kids' records is saturated
+pub saturated_above : (L : ℕ) (rs : List Record) (r : Record) (own : ℕ) (c : Cell) (ks : List Record) → ks ≡ kid_records L rs (centre_of r) → IsTrue (holds c (halved (centre_of r)))
+    → IsTrue (is_saturated L rs (raised r own c ks))
 unfolding is_saturated
-raised_saturated g i r own c h at inside =
+saturated_above L rs r own c ks are inside =
     let d = centre_of r in
-    let ks = kid_records g.l g.records d in
     let q = raised r own c ks in
-    let stay : ks ≡ kid_records g.l (set g.records i q) d = sym (kids_stay g i r q h at refl) in
-    subst (λ js. (q.err == q.own + greatest_err js) && (holds q.cell (halved d) && list_all (holds_cell q.cell) js) ≡ true) stay
+    subst (λ js. (q.err == q.own + greatest_err js) && (holds q.cell (halved d) && list_all (holds_cell q.cell) js) ≡ true) are
     (and_from _ _ (eq-eqb q.err (own + greatest_err ks) refl)
     (and_from _ _ (holding q.cell (halved d) (all_keep c ks (halved d) (held c (halved d) inside)))
     (all_from (holds_cell q.cell) ks (λ k m. let both = all_hold c ks k m in and_from _ _ (holding q.cell k.cell.lo both.0) (holding q.cell k.cell.hi both.1)))))
+
+pub raised_saturated : (g : GraphState) (i : ℕ) (r : Record) (own : ℕ) (c : Cell) → IsGraph g → slice_get g.records i ≡ Some r → IsTrue (holds c (halved (centre_of r)))
+    → let q = raised r own c (kid_records g.l g.records (centre_of r)) in IsTrue (is_saturated g.l (set g.records i q) q)
+raised_saturated g i r own c h at inside =
+    let ks = kid_records g.l g.records (centre_of r) in
+    let q = raised r own c ks in
+    saturated_above g.l (set g.records i q) r own c ks (sym (kids_stay g i r q h at refl)) inside
 
 -- what is set
 

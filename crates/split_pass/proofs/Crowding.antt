@@ -19,7 +19,7 @@ use Rattle.diamond_graph.specs.Adding.{most_centres}
 use Rattle.tri_stream.specs.declared.names.StreamId.{StreamId}
 use Rattle.tri_stream.specs.Streams.{StreamsState, count_of, list_of, told_list, IsLive, Stands}
 use Rattle.split_pass.specs.Moves.{Divides, Ends}
-use Rattle.split_pass.proofs.Moving.{live_differs, same_name, same_size}
+use Rattle.tri_stream.proofs.Changes.{live_differs, same_name, same_size}
 use Rattle.diamond_graph.specs.Closed.{closure, IsPartOf}
 use Rattle.diamond_graph.proofs.ClosureLaw.{closure_ascends, closure_closed, closure_holds, closure_least}
 use Rattle.diamond_graph.proofs.SetLaw.{both_ways, closure-once, fewer, record_order_same}

@@ -19,15 +19,16 @@ use Rattle.tetra_name.specs.Names.{tetrahedron_of, IsName, NamesEach}
 use Rattle.tetra_name.proofs.NameFacts.{member-contains}
 use Rattle.tri_stream.specs.declared.names.StreamId.{StreamId}
 use Rattle.diamond_graph.specs.Graphs.{centre_of, fresh_record}
-use Rattle.tri_stream.specs.Streams.{StreamsState, count_of, list_of, told_list, IsLive, LeavesAll, LeavesOthers}
+use Rattle.tri_stream.specs.Streams.{StreamsState, count_of, list_of, told_list, IsLive, LeavesAll, LeavesOthers, size_of}
 use Rattle.assign.specs.Paths.{entered, path, path_below}
 use Rattle.assign.specs.Leaf.{leaf, leaf_patch}
 use Rattle.assign.specs.Names.{tet_cmp, LeafTable}
 use Rattle.assign.specs.Standing.{named_patch, HoldsPatches, IsLeafOf, NamesStreams}
 use Rattle.assign.proofs.PathLaw.{next_child, walk, walk_member}
-use Rattle.split_pass.specs.Moves.{size_of, IsTidy, Places}
-use Rattle.split_pass.proofs.Moving.{live_differs, live_size}
-use Rattle.split_pass.proofs.Naming.{other_name, same_tet, some_same}
+use Rattle.split_pass.specs.Moves.{IsTidy, Places}
+use Rattle.tri_stream.proofs.Changes.{live_differs, live_size}
+use Rattle.assign.proofs.NameTables.{same_tet, some_same}
+use Rattle.split_pass.proofs.Naming.{other_name}
 
 -- T is a root or its parent is split
 abbrev Below : ℕ → List Point → Tetrahedron → Type 0
@@ -198,14 +199,6 @@ holds_start L F s h = record {
     nothing : (name : Tet) (id : StreamId) → get (empty {X = StreamId} {R = tet_cmp}) name ≡ Some id → ⊥
     nothing name id is = let none = get-empty {X = StreamId} tet_cmp name in cc
 
-pub one_more : (M : Mesh) (k : ℕ) (t : Tri) → slice_get M k ≡ Some t → take (k + 1) M ≡ take k M ++ t ∷ []
-one_more M k t is =
-    let within = slice_get_within M k t is in
-    take_more M k t within ∙ ap (λ y. take k M ++ y ∷ []) (get_or_from_slice_get M k t t is)
-
-pub all_taken : (M : Mesh) (k : ℕ) → slice_get M k ≡ None → take k M ≡ M
-all_taken M k none = take_all k M (elim (slice_get_cases M k).1 [ inl w ↦ let some = w.2 in absurd cc | inr w ↦ w.0 ])
-
 -- the tetrahedron of a name
 pub tetrahedron_there : (L : ℕ) (name : Tet) → IsName L name → (T : Tetrahedron) × (tetrahedron_of L name ≡ Some T)
 unfolding IsName
@@ -222,18 +215,6 @@ not_whole L F whole leaf_name id m s tidy was =
     elim was [
       | inl here ↦ λ same. tidy.apart leaf_name id here (sym same)
       | inr none ↦ live_differs s whole id tidy.whole_live none.1
-    ]
-
--- where another triangle is given, fewer than all were
-pub reads_more : (s : StreamsState) (id : StreamId) (k n : ℕ) (next : Option Tri) (t : Tri) → IsLive s id → size_of s id ≡ n → k ≤ n
-    → next ≡ None ↔ (count_of s id ≡ Some k) → next ≡ Some t → k < n
-reads_more s id k n next t live all within end is =
-    elim (cases_lt k n) [
-      | inl h ↦ h
-      | inr h ↦
-          let same : size_of s id ≡ k = omega arith in
-          let none : next ≡ None = end.1 (live_size s id live ∙ ap Some same) in
-          absurd (let e : Some t ≡ None = sym is ∙ none in cc)
     ]
 
 -- the streams of the leaves stay where the one that was read ends

@@ -12,7 +12,7 @@ use Rattle.tri_stream.specs.declared.names.StreamId.{StreamId}
 use Rattle.tri_stream.specs.Streams.{StreamsState, count_of, list_of, told_list, total, IsLive, LeavesOthers, Stands}
 use Rattle.split_pass.specs.Moves.{AreApart, AreFresh, AreLive, IsNoneOf, LeavesAllOthers, MakesAll}
 use Rattle.split_pass.proofs.Dividing.{nothing_more}
-use Rattle.split_pass.proofs.Moving.{differ, live_as_before, live_differs, nothing_told, one_told, same_name, Makes}
+use Rattle.tri_stream.proofs.Changes.{differ, live_as_before, live_differs, nothing_told, one_told, same_name, Makes}
 
 in_root : (slot n : ℕ) (t : Tri) → n ≡ root_slot (corner_sum t) → n ≡ slot → is_in_root slot t ≡ true
 unfolding is_in_root

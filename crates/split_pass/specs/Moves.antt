@@ -10,17 +10,7 @@ use Rattle.tri_stream.specs.declared.names.Cursor.{Cursor}
 use Rattle.std.specs.Option.{ForSome, option_map, unwrap_or}
 use Rattle.std.specs.declared.option.Option.TheVariants.{None, Some}
 use Rattle.tri_stream.specs.declared.names.StreamId.{StreamId}
-use Rattle.tri_stream.specs.Streams.{StreamsState, count_of, list_of, told_list, total, Follows, IsLive, Stands}
-
--- how many triangles a stream has; 0 where the name isn't live
-abbrev pub size_of : StreamsState → StreamId → ℕ
-size_of s id = unwrap_or (count_of s id) 0
-
--- The cube is as before, and the bytes that are told are those that the streams left.
-pub record Stays (old new : StreamsState) (now : Option (List ℕ)) : Type 0 where
-  pub base : new.base ≡ old.base
-  pub l : new.l ≡ old.l
-  pub stands : ForSome now (Stands new)
+use Rattle.tri_stream.specs.Streams.{StreamsState, count_of, list_of, size_of, told_list, total, Follows, IsLive, Stands}
 
 -- Every stream but these two is as before.
 pub record LeavesAllBut (a b : StreamId) (old new : StreamsState) (before now : Option (List ℕ)) : Type 0 where
@@ -102,20 +92,6 @@ pub record AddsAll (ids : List StreamId) (old new : StreamsState) (before now : 
   pub apart : AreApart ids
   pub live : AreLive ids new
   pub others : LeavesAllOthers ids old new before now
-
--- The stream of a leaf was there, or is new and has no triangles. Every other stream, and that of every other name, is as before.
-pub record Names (leaf : Tet) (id : StreamId) (before after : LeafTable) (old new : StreamsState) : Type 0 where
-  pub live : IsLive new id
-  pub here : get after leaf ≡ Some id
-  pub rest : (name : Tet) → name ≢ leaf → get after name ≡ get before name
-  pub was : (get before leaf ≡ Some id) ⊎ ((get before leaf ≡ None) × (count_of old id ≡ None))
-  pub size : size_of new id ≡ size_of old id
-  pub total : total new ≡ total old
-  pub counts : (x : StreamId) → x ≢ id → count_of new x ≡ count_of old x
-  pub lists : (told : Option (List ℕ)) → ForSome told (Stands old) → (x : StreamId) → x ≢ id → told_list new told x ≡ told_list old told x
-  pub cursors : (told : Option (List ℕ)) → ForSome told (Stands old) → (at : Cursor) → at.stream ≢ id → Follows old told at → Follows new told at
-  pub list : (told : Option (List ℕ)) → ForSome told (Stands old)
-      → told_list new told id ≡ option_map (λ bytes. if is_some (get before leaf) then list_of old bytes id else []) told
 
 -- A triangle was put into the stream of its leaf, and every other stream is as before, that of every other name too.
 pub record Places (leaf : Tet) (id : StreamId) (t : Tri) (leaves leaves' : LeafTable) (old new : StreamsState) (before now : Option (List ℕ)) : Type 0 where

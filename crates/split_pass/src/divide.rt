@@ -6,10 +6,10 @@ ghost use Rattle.tpz_base.specs.Diamonds.{level_of};
 ghost use Rattle.tetra_name.specs.Names.{point_of, tetrahedron_of, IsBound, IsName};
 ghost use Rattle.tri_stream.specs.declared.names.Cursor.{Cursor};
 ghost use Rattle.tpz_base.specs.Cubes.{IsTriInCube};
-ghost use Rattle.tri_stream.specs.Streams.{count_of, told_list, total, IsLive, Stands, Follows};
+ghost use Rattle.tri_stream.specs.Streams.{count_of, told_list, total, IsLive, Stands, Follows, size_of, Stays};
 ghost use Rattle.split_pass.specs.declared.fault.SplitFault.{SplitFault};
 ghost use Rattle.split_pass.specs.Crowds.{first_part, second_part};
-ghost use Rattle.split_pass.specs.Moves.{size_of, Divides, LeavesAllBut, MakesTwo, Stays};
+ghost use Rattle.split_pass.specs.Moves.{Divides, LeavesAllBut, MakesTwo};
 
 use crate::fault::SplitFault;
 use assign::side;

@@ -7,10 +7,10 @@ ghost use Rattle.tetra_name.specs.Names.{point_of, tetrahedron_of, IsBound, IsCe
 ghost use Rattle.diamond_graph.specs.Closed.{closure};
 ghost use Rattle.diamond_graph.specs.Adding.{most_centres};
 ghost use Rattle.tri_stream.specs.declared.names.StreamId.{StreamId};
-ghost use Rattle.tri_stream.specs.Streams.{count_of, told_list, total, IsLive, Stands};
+ghost use Rattle.tri_stream.specs.Streams.{count_of, told_list, total, IsLive, Stands, size_of, Stays};
 ghost use Rattle.split_pass.specs.declared.fault.SplitFault.{SplitFault};
 ghost use Rattle.split_pass.specs.Crowds.{with_crowded, with_roots};
-ghost use Rattle.split_pass.specs.Moves.{size_of, Ends, Stays};
+ghost use Rattle.split_pass.specs.Moves.{Ends};
 
 use crate::divide::divide;
 use crate::fault::SplitFault;

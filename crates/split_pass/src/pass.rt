@@ -6,11 +6,10 @@ ghost use Rattle.tetra_name.specs.declared.shape.Tet.{Tet};
 ghost use Rattle.diamond_graph.specs.Adding.{most_centres};
 ghost use Rattle.diamond_graph.specs.Graphs.{centres, IsGraph};
 ghost use Rattle.tri_stream.specs.declared.names.StreamId.{StreamId};
-ghost use Rattle.tri_stream.specs.Streams.{told_list, total, IsLive, Stands};
+ghost use Rattle.tri_stream.specs.Streams.{told_list, total, IsLive, Stands, size_of, Stays};
 ghost use Rattle.assign.specs.Splits.{split_set};
 ghost use Rattle.assign.specs.Standing.{HoldsPatches, NamesStreams};
 ghost use Rattle.split_pass.specs.declared.fault.SplitFault.{SplitFault};
-ghost use Rattle.split_pass.specs.Moves.{size_of, Stays};
 
 use crate::fault::SplitFault;
 use crate::find::find_all;

@@ -5,7 +5,7 @@ ghost use Rattle.std.specs.FinMap as map;
 ghost use Rattle.tetra_name.specs.declared.shape.Tet.{Tet};
 ghost use Rattle.tri_stream.specs.declared.names.StreamId.{StreamId};
 ghost use Rattle.tri_stream.specs.declared.names.Cursor.{Cursor};
-ghost use Rattle.tri_stream.specs.Streams.{count_of, list_of, told_list, total, IsLive, Stands, Follows, LeavesOthers};
+ghost use Rattle.tri_stream.specs.Streams.{count_of, list_of, told_list, total, IsLive, Stands, Follows, LeavesOthers, size_of, Stays};
 ghost use Rattle.tpz_base.specs.Meshes.{is_whole, Mesh};
 ghost use Rattle.tetra_name.specs.Names.{tetrahedron_of, IsBound, IsName};
 ghost use Rattle.diamond_graph.specs.Graphs.{centres};
@@ -13,32 +13,16 @@ ghost use Rattle.tpz_base.specs.Cubes.{IsTriInCube};
 ghost use Rattle.assign.specs.Leaf.{leaf as leaf_at};
 ghost use Rattle.assign.specs.Standing.{HoldsPatches};
 ghost use Rattle.split_pass.specs.declared.fault.SplitFault.{SplitFault};
-ghost use Rattle.split_pass.specs.Moves.{size_of, IsTidy, Names, Places, Stays};
+ghost use Rattle.assign.specs.Naming.{Names};
+ghost use Rattle.split_pass.specs.Moves.{IsTidy, Places};
 
 use crate::fault::SplitFault;
-use assign::{Leaves, leaf_of};
+use assign::{Leaves, leaf_of, stream_of};
 use diamond_graph::Graph;
-use std::alloc::AllocError;
 use tetra_name::Tet;
 use tpz_base::Tri;
 use tpz_io::Blob;
 use tri_stream::{StreamId, Streams};
-
-/// The stream of a leaf. Where it has none, a new one without triangles becomes its stream.
-fn stream_of(streams: &mut Streams, leaves: &mut Leaves, leaf: Tet) -> Result<StreamId, AllocError>
-    requires { (id : StreamId) → map.get leaves.old leaf ≡ Some id → IsLive streams.old id }
-    ensures stream { IfOk result (λ id. Names leaf id leaves.old leaves.new streams.old streams.new) }
-    ensures base { streams.new.base ≡ streams.old.base }
-    ensures l { streams.new.l ≡ streams.old.l }
-    ensures stands { (bytes : List ℕ) → Stands streams.old bytes → Stands streams.new bytes }
-{
-    if let Some(id) = leaves.stream(leaf) {
-        return Ok(id);
-    }
-    let id = streams.make()?;
-    leaves.set(leaf, id)?;
-    Ok(id)
-}
 
 /// Puts a triangle into the stream of its leaf.
 fn place<B: Blob>(

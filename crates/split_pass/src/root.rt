@@ -6,9 +6,9 @@ ghost use Rattle.tpz_base.specs.Roots.{is_in_root, root_part};
 ghost use Rattle.tri_stream.specs.declared.names.Cursor.{Cursor};
 ghost use Rattle.tri_stream.specs.declared.names.StreamId.{StreamId};
 ghost use Rattle.tpz_base.specs.Cubes.{IsTriInCube};
-ghost use Rattle.tri_stream.specs.Streams.{told_list, total, IsLive, Stands, Follows};
+ghost use Rattle.tri_stream.specs.Streams.{told_list, total, IsLive, Stands, Follows, size_of, Stays};
 ghost use Rattle.split_pass.specs.declared.fault.SplitFault.{SplitFault};
-ghost use Rattle.split_pass.specs.Moves.{size_of, AddsAll, AreApart, AreLive, IsNoneOf, LeavesAllOthers, MakesAll, Stays};
+ghost use Rattle.split_pass.specs.Moves.{AddsAll, AreApart, AreLive, IsNoneOf, LeavesAllOthers, MakesAll};
 
 use crate::fault::SplitFault;
 use assign::root_of;

@@ -1,3 +1,4 @@
 mod Places
 mod Words
 pub mod OneStream
+pub mod Changes

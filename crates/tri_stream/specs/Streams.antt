@@ -22,6 +22,10 @@ count_of s id = option_map length (list_at s.lists id.place)
 abbrev pub IsLive : StreamsState → StreamId → Type 0
 IsLive s id = IsSome (count_of s id)
 
+-- how many triangles a stream has; 0 where the name isn't live
+abbrev pub size_of : StreamsState → StreamId → ℕ
+size_of s id = unwrap_or (count_of s id) 0
+
 -- how many triangles all streams have together
 unfoldable pub total : StreamsState → ℕ
 total s = size_of_all s.lists
@@ -62,3 +66,9 @@ pub record LeavesAll (old new : StreamsState) (before now : Option (List ℕ)) :
   pub lists : (x : StreamId) → told_list new now x ≡ told_list old before x
   pub cursors : (at : Cursor) → Follows old before at → Follows new now at
   pub total : total new ≡ total old
+
+-- The cube is as before, and the bytes that are told are those that the streams left.
+pub record Stays (old new : StreamsState) (now : Option (List ℕ)) : Type 0 where
+  pub base : new.base ≡ old.base
+  pub l : new.l ≡ old.l
+  pub stands : ForSome now (Stands new)

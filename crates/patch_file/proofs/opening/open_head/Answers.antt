@@ -1,7 +1,5 @@
-use Rattle.std.proofs.Common.{◌≡◌, ◌∙◌, sym, ap, arith, refl, length, take, drop, subst}
-use Rattle.patch_file.specs.Bytes.{Bytes}
+use Rattle.std.proofs.Common.{◌≡◌, ◌∙◌, sym, length}
 use Rattle.patch_file.specs.declared.head.Head.{Head}
-use Rattle.patch_file.specs.Reading.{is_spent, IsPiece, IsHeadOf, IsHeadRight, HasPiece}
 use Rattle.patch_file.proofs.AskingLaw.{asked_once, asked_both, asked_any}
 use Rattle.patch_file.proofs.OpeningLaw.{piece_of, is_piece, ok_from}
 use Rattle.patch_file.proofs.opening.open_head.Goals as goal

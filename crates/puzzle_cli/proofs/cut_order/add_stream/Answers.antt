@@ -6,7 +6,7 @@ use Rattle.tpz_base.specs.Meshes.{Mesh}
 use Rattle.tri_stream.specs.Streams.{told_list}
 use Rattle.puzzle_cli.specs.Numbering.{numbered_mesh}
 use Rattle.puzzle_cli.proofs.LeafOrder.{one_taken}
-use Rattle.split_pass.proofs.Placing.{all_taken}
+use Rattle.tri_stream.proofs.Changes.{all_taken}
 use Rattle.puzzle_cli.proofs.cut_order.add_stream.Goals as goal
 
 pub triangles-preserved : goal.triangles-preserved

@@ -41,8 +41,8 @@ returns-clause-stream g c = λ bytes told held keeps rows faces means.
     let (last, ends) = told_later _ _ later c.stream_tris.ensures.telling kept in
     let read = all_read c.args.digits _ _ _ _ bytes later _ _ _ _ _ rows faces c.in-Ok.ensures.opened told kept refl t.1 means in
     let source = source_of c.in_ok-whole.whole t.0 c.in-Ok.opened.frame.l c.new-streams.result c.make.new.self c.stream_tris.new.streams _ _
-        c.new-streams.ensures.none (c.make.ensures.l ∙ c.new-streams.ensures.l) c.in_ok-whole.ensures.count c.in_ok-whole.ensures.list c.in_ok-whole.ensures.others
-        c.new-streams.ensures.stands t.2 in
+    c.new-streams.ensures.none (c.make.ensures.l ∙ c.new-streams.ensures.l) c.in_ok-whole.ensures.count c.in_ok-whole.ensures.list c.in_ok-whole.ensures.others
+    c.new-streams.ensures.stands t.2 in
     record {
       l = source.level ∙ read.l;
       digits = read.scaled;
@@ -57,8 +57,8 @@ returns-clause-small g c =
     let t = c.in-Ok-stream_tris.ensures.tris in
     let frame = c.in-Ok.opened.frame in
     let source = source_of c.in_ok-whole.whole t.0 frame.l c.new-streams.result c.make.new.self c.stream_tris.new.streams _ _
-        c.new-streams.ensures.none (c.make.ensures.l ∙ c.new-streams.ensures.l) c.in_ok-whole.ensures.count c.in_ok-whole.ensures.list c.in_ok-whole.ensures.others
-        c.new-streams.ensures.stands t.2 in
+    c.new-streams.ensures.none (c.make.ensures.l ∙ c.new-streams.ensures.l) c.in_ok-whole.ensures.count c.in_ok-whole.ensures.list c.in_ok-whole.ensures.others
+    c.new-streams.ensures.stands t.2 in
     let tris = some_same (sym c.count.ensures.value ∙ source.count) in
     let more = t.2.total in
     let none = c.make.ensures.total ∙ c.new-streams.ensures.total in

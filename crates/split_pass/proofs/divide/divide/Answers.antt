@@ -2,7 +2,8 @@
 use Rattle.std.proofs.Common.{◌∙◌, sym}
 use Rattle.tri_stream.specs.Streams.{told_list}
 use Rattle.split_pass.specs.Crowds.{first_part, second_part}
-use Rattle.split_pass.proofs.Moving.{filled, live_differs, told_bytes}
+use Rattle.tri_stream.proofs.Changes.{live_differs, told_bytes}
+use Rattle.split_pass.proofs.Moving.{filled}
 use Rattle.split_pass.proofs.divide.divide.Goals as goal
 
 pub returns-clause-first : goal.returns-clause-first

@@ -3,9 +3,9 @@ use Rattle.std.proofs.Common.{◌≡◌, ◌≤◌, ◌+◌, ◌-◌, ◌++◌}
 use Rattle.std.specs.Prelude.{take}
 use Rattle.std.specs.Option.{ForSome, option_map}
 use Rattle.tetra_name.specs.Names.{tetrahedron_of}
-use Rattle.tri_stream.specs.Streams.{told_list, total, IsLive, Follows}
+use Rattle.tri_stream.specs.Streams.{told_list, total, IsLive, Follows, size_of, Stays}
 use Rattle.split_pass.specs.Crowds.{first_part, second_part}
-use Rattle.split_pass.specs.Moves.{size_of, LeavesAllBut, Stays}
+use Rattle.split_pass.specs.Moves.{LeavesAllBut}
 use Rattle.split_pass.proofs.divide.send_all.Given as goal
 
 abbrev pub invariant-triangles : goal.invariant-triangles

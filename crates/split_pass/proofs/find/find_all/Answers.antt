@@ -7,7 +7,7 @@ use Rattle.tpz_base.specs.Roots.{root_part}
 use Rattle.tetra_name.specs.Names.{point_of}
 use Rattle.split_pass.specs.Crowds.{with_roots}
 use Rattle.split_pass.proofs.Crowding.{empty_closure, root_found, root_here, root_slot_of, root_too_many}
-use Rattle.split_pass.proofs.Moving.{live_as_before}
+use Rattle.tri_stream.proofs.Changes.{live_as_before}
 use Rattle.split_pass.proofs.Rooting.{all_ended, ended_too, live_is_other}
 use Rattle.tri_stream.proofs.OneStream.{totals_same}
 use Rattle.split_pass.proofs.find.find_all.Goals as goal

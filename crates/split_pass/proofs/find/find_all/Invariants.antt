@@ -6,9 +6,9 @@ use Rattle.diamond_graph.specs.Closed.{closure}
 use Rattle.diamond_graph.specs.Adding.{most_centres}
 use Rattle.tpz_base.specs.Roots.{root_part}
 use Rattle.tri_stream.specs.declared.names.StreamId.{StreamId}
-use Rattle.tri_stream.specs.Streams.{count_of, told_list, total, IsLive}
+use Rattle.tri_stream.specs.Streams.{count_of, told_list, total, IsLive, Stays}
 use Rattle.split_pass.specs.Crowds.{with_roots}
-use Rattle.split_pass.specs.Moves.{IsNoneOf, Stays}
+use Rattle.split_pass.specs.Moves.{IsNoneOf}
 use Rattle.split_pass.proofs.find.find_all.Given as goal
 
 abbrev pub invariant-slots : goal.invariant-slots

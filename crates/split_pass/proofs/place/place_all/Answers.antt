@@ -5,12 +5,11 @@ use Rattle.std.specs.Prelude.{slice_get, take}
 use Rattle.tpz_base.specs.Meshes.{Mesh}
 use Rattle.diamond_graph.specs.Graphs.{centres}
 use Rattle.tetra_name.proofs.EveryName.{names_each}
-use Rattle.tri_stream.specs.Streams.{told_list, IsLive}
+use Rattle.tri_stream.specs.Streams.{told_list, IsLive, size_of}
 use Rattle.assign.specs.Standing.{HoldsPatches}
-use Rattle.split_pass.specs.Moves.{size_of}
-use Rattle.split_pass.proofs.Moving.{same_size, told_bytes}
+use Rattle.tri_stream.proofs.Changes.{same_size, told_bytes, all_taken, one_more, reads_more}
 use Rattle.split_pass.proofs.Naming.{still_tidy}
-use Rattle.split_pass.proofs.Placing.{all_taken, holds_same, holds_start, leaf_is, not_whole, one_more, reads_more, still_holds, tetrahedron_there, tidy_same, tidy_start}
+use Rattle.split_pass.proofs.Placing.{holds_same, holds_start, leaf_is, not_whole, still_holds, tetrahedron_there, tidy_same, tidy_start}
 use Rattle.split_pass.proofs.place.place_all.Goals as goal
 
 pub triangles-init : goal.triangles-init

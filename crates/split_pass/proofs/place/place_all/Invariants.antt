@@ -3,9 +3,9 @@ use Rattle.std.proofs.Common.{◌≡◌, ◌≤◌, ◌+◌, ◌-◌}
 use Rattle.std.specs.Prelude.{take}
 use Rattle.std.specs.Option.{ForSome}
 use Rattle.diamond_graph.specs.Graphs.{centres}
-use Rattle.tri_stream.specs.Streams.{count_of, told_list, total, Follows}
+use Rattle.tri_stream.specs.Streams.{count_of, told_list, total, Follows, size_of, Stays}
 use Rattle.assign.specs.Standing.{HoldsPatches}
-use Rattle.split_pass.specs.Moves.{size_of, IsTidy, Stays}
+use Rattle.split_pass.specs.Moves.{IsTidy}
 use Rattle.split_pass.proofs.place.place_all.Given as goal
 
 abbrev pub invariant-triangles : goal.invariant-triangles

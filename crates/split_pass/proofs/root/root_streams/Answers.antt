@@ -2,7 +2,8 @@
 use Rattle.std.proofs.Common.{◌∙◌, arith}
 use Rattle.tpz_base.specs.Roots.{root_part}
 use Rattle.tri_stream.specs.Streams.{told_list}
-use Rattle.split_pass.proofs.Moving.{filled, live_as_before, same_size, told_bytes}
+use Rattle.tri_stream.proofs.Changes.{live_as_before, same_size, told_bytes}
+use Rattle.split_pass.proofs.Moving.{filled}
 use Rattle.split_pass.proofs.Rooting.{live_is_other, made_live}
 use Rattle.split_pass.proofs.root.root_streams.Goals as goal
 

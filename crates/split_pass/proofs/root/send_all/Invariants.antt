@@ -4,8 +4,8 @@ use Rattle.std.specs.Prelude.{filter, slice_get, take}
 use Rattle.std.specs.Option.{ForSome, option_map}
 use Rattle.tpz_base.specs.Roots.{is_in_root}
 use Rattle.tri_stream.specs.declared.names.StreamId.{StreamId}
-use Rattle.tri_stream.specs.Streams.{told_list, total, Follows}
-use Rattle.split_pass.specs.Moves.{size_of, AreLive, LeavesAllOthers, Stays}
+use Rattle.tri_stream.specs.Streams.{told_list, total, Follows, size_of, Stays}
+use Rattle.split_pass.specs.Moves.{AreLive, LeavesAllOthers}
 use Rattle.split_pass.proofs.root.send_all.Given as goal
 
 abbrev pub invariant-triangles : goal.invariant-triangles

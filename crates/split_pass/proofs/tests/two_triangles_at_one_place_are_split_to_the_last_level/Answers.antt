@@ -1,5 +1,6 @@
 -- One stream was made, and triangles went to no other.
-use Rattle.split_pass.proofs.Moving.{append_counts, none_else}
+use Rattle.tri_stream.proofs.Changes.{append_counts}
+use Rattle.split_pass.proofs.Moving.{none_else}
 use Rattle.split_pass.proofs.tests.two_triangles_at_one_place_are_split_to_the_last_level.Goals as goal
 
 pub split-made-requires-clause-only : goal.split-made-requires-clause-only

@@ -1,26 +1,23 @@
-use Rattle.std.proofs.Common.{◌≡◌, ◌*◌, ◌-◌, ◌≤◌, ◌∙◌, sym, subst, arith, rules, refl, ap, Option, Err, true}
+use Rattle.std.proofs.Common.{◌≡◌, ◌*◌, ◌-◌, ◌<◌, ◌^◌, length, ◌∙◌, sym, subst, arith, rules, Option, Err, true, All}
 use Rattle.patch_file.specs.declared.entry.Entries.{Entries}
 use Rattle.patch_file.specs.Tables.{Contents}
 use Rattle.patch_file.specs.Bytes.{Bytes}
-use Rattle.patch_file.specs.Reading.{HasPiece, IsPlaced}
-use Rattle.patch_file.proofs.Opened.{whole, opened, First, Second, Last, widened, graph_refused, base_refused, retyped, asked_err, rose_err}
+use Rattle.patch_file.specs.Reading.{HasPiece}
+use Rattle.patch_file.proofs.Opened.{whole, opened, Second, Last, kept, graph_refused, base_refused, retyped, asked_err, rose_err}
 use Rattle.patch_file.proofs.AskingLaw.{asked_both, asked_some, asked_any}
-use Rattle.diamond_graph.specs.Graphs.{GraphState}
+use Rattle.diamond_graph.specs.Graphs.{GraphState, IsStored}
 use Rattle.diamond_graph.specs.Saturated.{AreSaturated}
 use Rattle.patch_file.proofs.reader.StoreReader.open.Goals as goal
 
 pub invariant_of-reader : goal.invariant_of-reader
 invariant_of-reader g c =
-    let head = c.in_ok-head.head in
-    let fit = c.in_ok-head.ensures.fit in
-    let room = fit.room in
-    let few = c.in_ok-entries.ensures.same_count in
-    record {
-      bound = fit.bound;
-      placed = widened head.params.l head.base head.total c.in_ok-entries.entries.places.items (omega arith) c.in_ok-entries.ensures.placed;
-      few = search rules;
-      short = fit.short;
-    }
+    let few : length c.in_ok-entries.entries.places.items < 2 ^ 32 = search rules in
+    kept c.in_ok-head.head c.in_ok-entries.entries.places.items c.in_ok-base.base c.in_ok-head.ensures.fit c.in_ok-entries.ensures.placed few
+
+pub returns-clause-places : goal.returns-clause-places
+returns-clause-places g c =
+    let few : length c.in_ok-entries.entries.places.items < 2 ^ 32 = search rules in
+    kept c.in_ok-head.head c.in_ok-entries.entries.places.items c.in_ok-base.base c.in_ok-head.ensures.fit c.in_ok-entries.ensures.placed few
 
 pub returns-clause-opened : goal.returns-clause-opened
 returns-clause-opened g c =
@@ -33,8 +30,11 @@ returns-clause-opened g c =
     let q : HasPiece told 80 (64 * head.records) (Second head rs ps base.patches fit) = subst (λ (t : Option Bytes). HasPiece t 80 (64 * head.records) (Second head rs ps base.patches fit)) c.in_ok-head.ensures.held c.in_ok-entries.ensures.piece in
     let r : HasPiece told head.base (head.total - head.base) (Last head rs ps base.patches fit)
     = subst (λ (t : Option Bytes). HasPiece t head.base (head.total - head.base) (Last head rs ps base.patches fit)) (c.in_ok-entries.ensures.held ∙ c.in_ok-head.ensures.held) c.in_ok-base.ensures.piece in
-    opened told head rs ps base c.in_ok-graph.graph c.in_ok-base.ensures.moves c.in_ok-graph.ensures.graph c.in_ok-graph.ensures.right fit
+    opened told head rs ps base c.in_ok-graph.graph c.in_ok-base.ensures.right.still c.in_ok-graph.ensures.graph c.in_ok-graph.ensures.right fit
     (whole head rs ps base.patches fit told c.in_ok-head.ensures.length c.in_ok-head.ensures.piece q r)
+
+pub returns-clause-records : goal.returns-clause-records
+returns-clause-records g c = subst (λ (k : GraphState). All (IsStored c.in_ok-head.head.params.l) k.records) (sym c.in_ok-graph.ensures.graph) c.in_ok-entries.ensures.stored
 
 pub returns-clause-saturated : goal.returns-clause-saturated
 returns-clause-saturated g c = subst (λ (k : GraphState). AreSaturated k.l k.records) (sym c.in_ok-graph.ensures.graph) c.in_ok-graph.ensures.saturated

@@ -1,0 +1,4 @@
+pub mod PartLines
+pub mod Pieces
+pub mod NumberLemmas
+pub mod Exports
