@@ -33,8 +33,8 @@ opened_items told opened records o bytes tells =
     let same : bytes ≡ bs = o.held bytes tells in
     let base = opened.base.patches in
     let count : length opened.places ≡ length (table_of bs base).0.records =
-        ap (λ (r : ReaderState). length r.places) o.reader ∙ length-map (numbers bs) (place_in bs)
-        ∙ sym (length-map (numbers bs) (λ i. record { entry = record_at bs i; block = read_block bs i })) in (
+    ap (λ (r : ReaderState). length r.places) o.reader ∙ length-map (numbers bs) (place_in bs)
+    ∙ sym (length-map (numbers bs) (λ i. record { entry = record_at bs i; block = read_block bs i })) in (
       table_of bs base,
       ap read same ∙ o.read,
       note_alike opened.params (table_of bs base).1 (length opened.places) (length (table_of bs base).0.records) opened.bytes (length bytes)

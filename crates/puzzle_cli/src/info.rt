@@ -46,12 +46,7 @@ fn store_line(
 }
 
 // The note: what the header says, the number of records, and the length of the whole.
-fn note_line(
-    alloc: Global,
-    params: &Params,
-    records: u32,
-    bytes: u64,
-) -> Result<String, AllocError>
+fn note_line(alloc: Global, params: &Params, records: u32, bytes: u64) -> Result<String, AllocError>
     ensures { IfOk result (λ line. string_bytes line ≡ info_note params.now records bytes) }
 {
     let front = input_line(alloc, params)?;

@@ -16,6 +16,8 @@ mod export;
 mod finest;
 mod generate;
 mod info;
+#[cfg(test)]
+mod info_tests;
 mod jobs;
 mod numbering;
 mod options;

@@ -1,10 +1,11 @@
 // What the commands answer and write on devices in memory.
 use super::*;
+use patch_file::StoreBad;
 use std::process::Abort;
 use std::test::Fail;
 use tpz_io::{Failed, MemBlob, MemOut, MemSource};
 
-fn source(alloc: Global, bytes: &[u8], fails: &[u64]) -> Result<MemSource, Fail> {
+pub(crate) fn source(alloc: Global, bytes: &[u8], fails: &[u64]) -> Result<MemSource, Fail> {
     let fails = fails.to_vec(alloc)?;
     Ok(MemSource::new(bytes.to_vec(alloc)?, fails))
 }
@@ -15,12 +16,12 @@ fn blob(alloc: Global, room: u64, fails: &[u64]) -> Result<MemBlob, Fail> {
     Ok(MemBlob::new(alloc, b"", room, fails)?)
 }
 
-fn output(alloc: Global, fails: &[u64]) -> Result<MemOut, Fail> {
+pub(crate) fn output(alloc: Global, fails: &[u64]) -> Result<MemOut, Fail> {
     let fails = fails.to_vec(alloc)?;
     Ok(MemOut::new(alloc, 4096, fails)?)
 }
 
-fn texts(alloc: Global, words: &[&str]) -> Result<Vec<String>, Fail> {
+pub(crate) fn texts(alloc: Global, words: &[&str]) -> Result<Vec<String>, Fail> {
     let mut texts = Vec::new(alloc);
     for word in words {
         texts.push(String::from_str(alloc, word)?)?;
@@ -762,6 +763,21 @@ fn each_status_has_its_code_and_line(rt: HostRuntime) -> Result<(), Fail> {
             Status::WorkDamage { offset: 24 },
             9,
             "tpz: work file damaged at 24",
+        ),
+        (
+            Status::BadStore(StoreBad::Field { offset: 72 }),
+            12,
+            "tpz: bad store: Field 72",
+        ),
+        (
+            Status::BadStore(StoreBad::BadBlock { rec: 2, offset: 4 }),
+            12,
+            "tpz: bad store: BadBlock 2 4",
+        ),
+        (
+            Status::ReadFault { at: ReadAt::Head },
+            13,
+            "tpz: store read failed at head",
         ),
         (Status::OutFault, 14, "tpz: output failed"),
         (Status::Memory, 16, "tpz: out of memory"),

@@ -33,7 +33,10 @@ fn with_cap(cap: u32) -> Job {
 #[test]
 fn words_in_the_grammar_give_their_job(rt: HostRuntime) -> Result<(), Fail> {
     let alloc = rt.alloc();
-    let rows: [(&[&str], Job); 17] = [
+    let rows: [(&[&str], Job); 20] = [
+        (&["info"], Job::Info { tries: 3 }),
+        (&["info", "--tries", "1"], Job::Info { tries: 1 }),
+        (&["info", "--tries=100"], Job::Info { tries: 100 }),
         (&["gen", "--size", "1"], Job::Gen { size: 1 }),
         (&["gen", "--size=500"], Job::Gen { size: 500 }),
         (&["gen", "--size=0000000500"], Job::Gen { size: 500 }),
