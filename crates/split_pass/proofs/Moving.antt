@@ -6,6 +6,7 @@ use Rattle.std.proofs.lemmas.Bool.{cases_lt}
 use Rattle.tpz_base.specs.Meshes.{Mesh}
 use Rattle.tri_stream.specs.declared.names.StreamId.{StreamId}
 use Rattle.tri_stream.specs.Streams.{StreamsState, count_of, list_of, told_list, total, IsLive, LeavesAll, LeavesOthers, Stands, size_of}
+use Rattle.tri_stream.proofs.Changes.{differ, live_differs, nothing_told, one_told, same_name, Makes}
 use Rattle.split_pass.specs.Moves.{MakesTwo}
 
 pub made_two : (a b : StreamId) (s0 s1 s2 : StreamsState) → Makes a s0 s1 → Makes b s1 s2 → MakesTwo a b s0 s2

@@ -19,6 +19,7 @@ use Rattle.tetra_name.specs.Names.{tetrahedron_of}
 use Rattle.tri_stream.specs.declared.names.Cursor.{Cursor}
 use Rattle.assign.specs.Standing.{IsLeafOf, NamesStreams}
 use Rattle.assign.specs.Naming.{Names}
+use Rattle.assign.proofs.NameTables.{same_tet, some_same}
 use Rattle.split_pass.specs.Moves.{IsTidy, Places}
 use Rattle.tri_stream.proofs.Changes.{live_differs, same_name, Makes}
 
