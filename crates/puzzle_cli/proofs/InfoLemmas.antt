@@ -78,8 +78,8 @@ failed_by_open (opening.Bad b) e = absurd cc
 failed_by_open opening.ReadFault e = refl
 failed_by_open opening.Memory e = absurd cc
 
-pub spent_is : {T : Type 0} (f : OpenFault) → f ≡ opening.ReadFault → is_spent {T = T} (Err f) ≡ true
-spent_is {T} f e = ap (λ (x : OpenFault). is_spent {T = T} (Err x)) e
+pub spent_is : (f : OpenFault) → f ≡ opening.ReadFault → is_spent {T = ℕ} (Err f) ≡ true
+spent_is f e = ap (λ (x : OpenFault). is_spent {T = ℕ} (Err x)) e
 
 -- an answer that a note which isn't written has not
 pub isnt : (answer other : Status) → (answer ≡ status.OutFault) ⊎ (answer ≡ status.Memory) → (status.OutFault ≡ other → ⊥) → (status.Memory ≡ other → ⊥) → answer ≡ other → ⊥
