@@ -106,19 +106,29 @@ struct Outcome {
     end: Result<u64, ScriptFault>,
 }
 
+// How many lines a script may have.
+const LINES: u64 = 1_048_576;
+
+// Takes commands to the end, or to a refusal. There are at most as many commands as lines.
 fn read_all(source: &mut MemSource) -> Outcome {
     let mut script = Script::new();
-    let mut commands = 0;
-    loop {
-        let end = match script.next(source) {
-            Ok(Some(_)) => {
-                commands += 1;
-                continue;
+    for commands in 0..=LINES {
+        match script.next(source) {
+            Ok(Some(_)) => {}
+            Ok(None) => {
+                let end = Ok(script.number());
+                return Outcome { commands, end };
             }
-            Ok(None) => Ok(script.number()),
-            Err(fault) => Err(fault),
-        };
-        return Outcome { commands, end };
+            Err(fault) => {
+                let end = Err(fault);
+                return Outcome { commands, end };
+            }
+        }
+    }
+    let end = Ok(script.number());
+    Outcome {
+        commands: LINES + 1,
+        end,
     }
 }
 
