@@ -104,10 +104,10 @@ fn a_damaged_store_is_refused_at_its_place(rt: HostRuntime) -> Result<(), Fail> 
         ),
         ("the centre of record 1", 152, 4, StoreBad::Order { rec: 1 }),
         (
-            "the offset of its block",
+            "the offset of its block, which is found at record 0",
             192,
             209,
-            StoreBad::Field { offset: 192 },
+            StoreBad::Field { offset: 128 },
         ),
         (
             "a corner of the base, outside the cube",
