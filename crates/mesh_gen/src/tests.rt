@@ -1,4 +1,4 @@
-// The first and the last triangle of the least mesh.
+// The first triangle of the least mesh.
 use super::*;
 use tpz_base::{Point, Tri};
 
@@ -10,7 +10,11 @@ fn the_least_mesh_has_its_triangles_in_order(rt: HostRuntime) {
         gen_tri(1, 0),
         Tri {
             a: Point { x: 0, y: 11, z: 22 },
-            b: Point { x: 3, y: 14, z: 89 },
+            b: Point {
+                x: 25,
+                y: 67,
+                z: 78
+            },
             c: Point { x: 5, y: 80, z: 27 }
         }
     );
