@@ -5,8 +5,8 @@
 #     YARDSTICK=/path/to/its/sources bench/stores.sh [SCRATCH]
 #
 # YARDSTICK, YARDSTICK_BIN, PROVED and SCRATCH are as for finest.sh. SEEDS is the numbers of the meshes (1 to 20 where it isn't
-# given); WHAT is what is compared: `build`, the two stores, notes, lines and statuses, or `info`, the notes of the two over the
-# plain program's store (build).
+# given); WHAT is what is compared: `build`, the two stores, notes, lines and statuses; `info`, the notes of the two over the
+# plain program's store; or `replay`, all parts of eight random views over it, lines and statuses (build).
 #
 # One line for each difference, and the number of runs. The exit status is 0 where nothing differs.
 set -eu
@@ -20,6 +20,7 @@ what=${WHAT:-build}
 prepare "${1:-}"
 runs=0
 different=0
+parts=0
 
 # One run of the program $1 in the folder of the side $2, with the words behind: its note, line and status.
 answer() {
@@ -36,7 +37,20 @@ differ() {
     different=$((different + 1))
 }
 
+# The same parts, as many on both sides.
+same_parts() {
+    part=1
+    while [ -e "$scratch/plain/part-$part.ply" ] || [ -e "$scratch/proved/part-$part.ply" ]; do
+        cmp -s "$scratch/proved/part-$part.ply" "$scratch/plain/part-$part.ply" || differ "seed $seed $words: part $part"
+        part=$((part + 1))
+        parts=$((parts + 1))
+    done
+}
+
+# The notes of replays differ: the plain program keeps blocks and moves its front, so it reads and tests less.
 same_answer() {
+    [ "$what" != replay ] || : >"$scratch/proved.note"
+    [ "$what" != replay ] || : >"$scratch/plain.note"
     for one in note line status; do
         cmp -s "$scratch/proved.$one" "$scratch/plain.$one" || differ "seed $seed $words: the $one"
     done
@@ -57,6 +71,17 @@ for seed in ${SEEDS:-1 2 3 4 5 6 7 8 9 10 11 12 13 14 15 16 17 18 19 20}; do
                 answer "$yardstick" plain info
                 answer "$proved" proved info
                 ;;
+            replay)
+                cp "$scratch/plain/store.tpz" "$scratch/proved/store.tpz"
+                digits=$("$yardstick" "$scratch/plain" info | sed 's/.* digits \([0-9]*\) .*/\1/')
+                awk -v seed="$seed$cap$budget" -v views=8 -v digits="$digits" -f "$here/random_script.awk" \
+                    "$scratch/plain/input.ply" >"$scratch/plain/script.txt"
+                cp "$scratch/plain/script.txt" "$scratch/proved/script.txt"
+                rm -f "$scratch/plain"/part-*.ply "$scratch/proved"/part-*.ply
+                answer "$yardstick" plain replay
+                answer "$proved" proved replay
+                same_parts
+                ;;
             *)
                 # shellcheck disable=SC2086
                 answer "$proved" proved build $words
@@ -68,5 +93,6 @@ for seed in ${SEEDS:-1 2 3 4 5 6 7 8 9 10 11 12 13 14 15 16 17 18 19 20}; do
         done
     done
 done
+[ "$what" != replay ] || echo "$parts parts"
 echo "$runs runs, $different differences"
 [ "$different" -eq 0 ]

@@ -1,5 +1,5 @@
 -- Numbers of vertices stay as the mesh grows at its end.
-use Rattle.std.proofs.Common.{◌≡◌, ℕ, ◌+◌, ◌≤◌, Bool, true, false, cond, not, ◌&&◌, ◌||◌, List, [], ◌∷◌, ◌++◌, length, refl, sym, ◌∙◌, ap, ap₂, subst, arith, inl, inr, append_assoc, length-append, one-add}
+use Rattle.std.proofs.Common.{◌≡◌, ℕ, ◌+◌, Bool, true, false, cond, not, ◌&&◌, ◌||◌, List, [], ◌∷◌, ◌++◌, refl, sym, ◌∙◌, ap, ap₂, subst, inl, inr, append_assoc, one-add}
 use Rattle.std.specs.Prelude.{map, filter}
 use Rattle.std.specs.List.{list_any, list_all}
 use Rattle.std.proofs.lemmas.Bool.{cases_Bool, and_parts, and_from}
@@ -32,7 +32,7 @@ number_kept (k ∷ ks) more p h =
     ]
 
 -- the point with the number of one that is there is that one
-numbered : (ks : List Point) (p : Point) → is_in ks p ≡ true → corner_at ks (number_in ks p) ≡ p
+pub numbered : (ks : List Point) (p : Point) → is_in ks p ≡ true → corner_at ks (number_in ks p) ≡ p
 numbered [] p h = cc
 numbered (k ∷ ks) p h =
     elim (cases_Bool (point_eq p k)) [
@@ -154,13 +154,13 @@ face_cong : (i j k i' j' k' : ℕ) → i ≡ i' → j ≡ j' → k ≡ k' → fa
 face_cong i j k i' j' k' p q r = cc
 
 -- the corners' tests of a mesh with one more triangle in front
-record Fronts (ks : List Point) (t : Tri) (M : Mesh) : Type 0 where
-  a : is_in ks t.a ≡ true
-  b : is_in ks t.b ≡ true
-  c : is_in ks t.c ≡ true
-  rest : HasCorners ks M
+pub record Fronts (ks : List Point) (t : Tri) (M : Mesh) : Type 0 where
+  pub a : is_in ks t.a ≡ true
+  pub b : is_in ks t.b ≡ true
+  pub c : is_in ks t.c ≡ true
+  pub rest : HasCorners ks M
 
-fronts : (ks : List Point) (t : Tri) (M : Mesh) → HasCorners ks (t ∷ M) → Fronts ks t M
+pub fronts : (ks : List Point) (t : Tri) (M : Mesh) → HasCorners ks (t ∷ M) → Fronts ks t M
 fronts ks t M h =
     let p = and_parts (is_in ks t.a) (is_in ks t.b && (is_in ks t.c && list_all (is_in ks) (corners_of M))) h in
     let q = and_parts (is_in ks t.b) (is_in ks t.c && list_all (is_in ks) (corners_of M)) p.1 in
@@ -218,18 +218,6 @@ triangle_push ks k1 k2 k3 fs M t f keys faces s1 a s2 b s3 c =
     let all : map face_of (fs ++ f ∷ []) ≡ map (face_in i3) (M ++ t ∷ []) =
     map-append face_of fs (f ∷ []) ∙ ap₂ (λ (x y : List Face). x ++ y) (faces ∙ sym old) (ap (λ (x : Face). x ∷ []) last) ∙ sym (map-append (face_in i3) M (t ∷ [])) in
     (e3 ∙ whole, all ∙ ap (λ (l : List Point). map (face_in l) (M ++ t ∷ [])) (sym e3))
-
-insert_key-longer : (ks : List Point) (p : Point) → length ks ≤ length (insert_key point_eq ks p)
-insert_key-longer ks p = elim (is_in ks p) as (λ b. length ks ≤ length (pushed b ks p)) [ true ↦ omega arith | false ↦ omega (arith, length-append ks (p ∷ [])) ]
-
-different-longer : (xs ys : List Point) → length (different xs) ≤ length (different (xs ++ ys))
-different-longer xs [] = rw (append-nil xs) (omega arith)
-different-longer xs (y ∷ ys) =
-    let one : length (different xs) ≤ length (different (xs ++ y ∷ [])) = rw (different_push xs y) (insert_key-longer (different xs) y) in
-    let more = different-longer (xs ++ y ∷ []) ys in
-    let same : (xs ++ y ∷ []) ++ ys ≡ xs ++ y ∷ ys = append_assoc xs (y ∷ []) ys in
-    let whole : length (different ((xs ++ y ∷ []) ++ ys)) ≡ length (different (xs ++ y ∷ ys)) = ap (λ (l : List Point). length (different l)) same in
-    omega (arith, one, more, whole)
 
 numbered_mesh-is : (n : Numbered) (M : Mesh) → HasCorners n.vertices.keys M → map face_of n.faces.items ≡ map (face_in n.vertices.keys) M → numbered_mesh n ≡ M
 unfolding numbered_mesh

@@ -23,3 +23,10 @@ pub mod WritingLaw
 pub mod Unfinished
 pub mod Distances
 pub mod RepresentedLaw
+pub mod Once
+pub mod SoundLaw
+pub mod TableOf
+pub mod LookUp
+pub mod CutTop
+pub mod CutMesh
+pub mod CutRows

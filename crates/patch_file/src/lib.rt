@@ -24,7 +24,7 @@ mod writer_tests;
 
 pub use block::Block;
 pub use fault::{BlockFault, OpenFault};
-pub use law::{store_law, writing_law};
+pub use law::{cut_law, store_law, writing_law};
 pub use reader::StoreReader;
 pub use shape::{Params, StoreBad};
 pub use writer::{StoreWriter, WriteFault};

@@ -69,6 +69,28 @@ fn a_store_is_opened_within_its_tries(rt: HostRuntime) -> Result<(), Fail> {
     Ok(())
 }
 
+/// How many calls opened the store of the square, where the calls with these numbers fail.
+fn asked(alloc: Global, fails: &[u64], tries: u32) -> Result<Option<u64>, Fail>
+    requires some { 1 ≤ tries }
+    requires few { tries ≤ 100 }
+{
+    let mut store = MemBlob::new(alloc, &SQUARE, 0, fails.to_vec(alloc)?)?;
+    match StoreReader::open(alloc, &mut store, tries) {
+        Ok((reader, _graph)) => Ok(Some(reader.asked())),
+        Err(_) => Ok(None),
+    }
+}
+
+#[test]
+fn each_call_that_opens_a_store_is_counted(rt: HostRuntime) -> Result<(), Fail> {
+    let alloc = rt.alloc();
+    assert_eq!(rt; asked(alloc, &[], 1)?, Some(4));
+    assert_eq!(rt; asked(alloc, &[1, 3], 2)?, Some(6));
+    assert_eq!(rt; asked(alloc, &[1, 2, 4, 6], 3)?, Some(8));
+    assert_eq!(rt; asked(alloc, &[4], 1)?, None);
+    Ok(())
+}
+
 /// Opens the store of the square with one byte changed.
 fn check_changed(
     rt: &impl Abort,

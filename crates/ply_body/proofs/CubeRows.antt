@@ -89,7 +89,7 @@ under_rest r (s ∷ rows) = (
 )
 
 -- no row is below the least coordinates, and none above the greatest
-all_over : (rows : List Row) → All (IsOver (low_of rows)) rows
+pub all_over : (rows : List Row) → All (IsOver (low_of rows)) rows
 all_over [] = All-nil (IsOver (low_of []))
 all_over (r ∷ rows) = subst (λ low. All (IsOver low) (r ∷ rows)) (low_is r rows)
     (All-from_recursion (IsOver (fold lower r rows)) (r ∷ rows) (over_first r rows, over_rest r rows))

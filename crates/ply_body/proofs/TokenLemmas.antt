@@ -1,5 +1,5 @@
 -- How the tokens of a body follow one another.
-use Rattle.std.proofs.Common.{◌≡◌, ℕ, suc, ◌+◌, ◌<◌, ◌≤◌, List, [], ◌∷◌, ◌++◌, length, take, refl, sym, ◌∙◌, ap, subst, arith, Bool, true, false, cond, ◌||◌, length-append, zero-add, append_assoc}
+use Rattle.std.proofs.Common.{◌≡◌, ℕ, suc, ◌+◌, ◌<◌, ◌≤◌, List, [], ◌∷◌, ◌++◌, length, take, refl, sym, ◌∙◌, ap, subst, arith, Bool, true, false, cond, length-append, zero-add, append_assoc}
 use Rattle.std.specs.Prelude.{filter, nat_lt, Result, Ok, Err, if◌then◌else◌}
 use Rattle.std.specs.List.{list_any, onto_first, slice_split}
 use Rattle.std.proofs.lemmas.List.{append-nil}
@@ -12,6 +12,7 @@ use Rattle.std.specs.declared.option.Option.TheVariants.{None, Some}
 use Rattle.tpz_io.specs.Told.{ahead}
 use Rattle.tpz_base.specs.Texts.{Bytes}
 use Rattle.ply_head.specs.Lines.{is_nonempty}
+use Rattle.ply_head.proofs.WrittenHeads.{split_after, split_alone}
 use Rattle.ply_head.specs.declared.element.Kind.{Kind}
 use Rattle.ply_head.specs.declared.element.Format.TheVariants.{Ascii}
 use Rattle.ply_body.specs.declared.fault.Flaw.{Flaw}
@@ -20,16 +21,6 @@ use Rattle.ply_body.specs.declared.item.Item.TheVariants.{Token}
 use Rattle.ply_body.specs.Items.{Items, Tokens, is_gap, is_full, without_last, complete_parts, items_of, item, unless, Refuses, Takes}
 use Rattle.ply_body.specs.Tokens.{IsLong, items_ahead, items_behind}
 use Rattle.ply_body.proofs.ItemLemmas.{refused_here}
-
-split_gap : (text : Bytes) (g : ℕ) (rest : Bytes) → list_any is_gap text ≡ false → is_gap g ≡ true
-    → slice_split is_gap (text ++ g ∷ rest) ≡ text ∷ slice_split is_gap rest
-split_gap [] g rest none gap = ap (λ (b : Bool). cond b ([] ∷ slice_split is_gap rest) (onto_first g (slice_split is_gap rest))) gap
-split_gap (c ∷ cs) g rest none gap = go (is_gap c) none (split_gap cs g rest) where
-  go : (b : Bool) → (b || list_any is_gap cs) ≡ false
-      → (list_any is_gap cs ≡ false → is_gap g ≡ true → slice_split is_gap (cs ++ g ∷ rest) ≡ cs ∷ slice_split is_gap rest)
-      → cond b ([] ∷ slice_split is_gap (cs ++ g ∷ rest)) (onto_first c (slice_split is_gap (cs ++ g ∷ rest))) ≡ (c ∷ cs) ∷ slice_split is_gap rest
-  go true none' rest' = absurd (cc)
-  go false none' rest' = ap (onto_first c) (rest' none' gap)
 
 some_gap_part : (bytes : Bytes) → 0 < length (slice_split is_gap bytes)
 some_gap_part [] = omega arith
@@ -59,21 +50,13 @@ complete_more : (text : Bytes) (g : ℕ) (rest : Bytes) (room : ℕ) → list_an
 complete_more text g rest room none gap =
     ap (λ (b : Bool). cond b (without_last (slice_split is_gap (take (length text + suc room) (text ++ g ∷ rest)))) (slice_split is_gap (take (length text + suc room) (text ++ g ∷ rest)))) (full_past text g rest room)
     ∙ ap (λ (l : Bytes). cond (is_full room rest) (without_last (slice_split is_gap l)) (slice_split is_gap l)) (take_past text g rest room)
-    ∙ ap (λ (ps : List Bytes). cond (is_full room rest) (without_last ps) ps) (split_gap text g (take room rest) none gap)
+    ∙ ap (λ (ps : List Bytes). cond (is_full room rest) (without_last ps) ps) (split_after is_gap text g (take room rest) none gap)
     ∙ go (is_full room rest)
   where
     go : (b : Bool) → cond b (without_last (text ∷ slice_split is_gap (take room rest))) (text ∷ slice_split is_gap (take room rest))
         ≡ text ∷ cond b (without_last (slice_split is_gap (take room rest))) (slice_split is_gap (take room rest))
     go true = without_last-cons text (slice_split is_gap (take room rest)) (some_gap_part (take room rest))
     go false = refl
-
-split_whole : (text : Bytes) → list_any is_gap text ≡ false → slice_split is_gap text ≡ text ∷ []
-split_whole [] none = refl
-split_whole (c ∷ cs) none = go (is_gap c) none (split_whole cs) where
-  go : (b : Bool) → (b || list_any is_gap cs) ≡ false → (list_any is_gap cs ≡ false → slice_split is_gap cs ≡ cs ∷ [])
-      → cond b ([] ∷ slice_split is_gap cs) (onto_first c (slice_split is_gap cs)) ≡ (c ∷ cs) ∷ []
-  go true none' rest' = absurd (cc)
-  go false none' rest' = ap (onto_first c) (rest' none')
 
 -- the items of these parts
 abbrev of_parts : List Bytes → Bool → Items
@@ -91,14 +74,14 @@ at_end : (text : Bytes) (room : ℕ) → list_any is_gap text ≡ false → 0 < 
 at_end text room none some =
     let open_room : is_full (length text + room) text ≡ false = grind (arith, nat_tests) in
     let whole : take (length text + room) text ≡ text = grind (arith, common_steps) in
-    rw (open_room, whole, split_whole text none) refl
+    rw (open_room, whole, split_alone is_gap text none) refl
 
 -- where the room is full it isn't
 at_full : (text rest : Bytes) → list_any is_gap text ≡ false → items_of Ascii (length text + 0) (text ++ rest) ≡ of_parts [] true
 at_full text rest none =
     let full : is_full (length text + 0) (text ++ rest) ≡ true = grind (arith, nat_tests, length-append {A = ℕ}) in
     let whole : take (length text + 0) (text ++ rest) ≡ text = grind (arith, common_steps) in
-    rw (full, whole, split_whole text none) refl
+    rw (full, whole, split_alone is_gap text none) refl
 
 -- a text in front is taken or refused by its length
 first_taken : (kind : Kind) (text : Bytes) (parts : List Bytes) (full : Bool) → 0 < length text → length text ≤ 64

@@ -1,45 +1,35 @@
 -- What is written for a mesh, part and note.
-use Rattle.std.proofs.Common.{◌≡◌, ℕ, List, [], ◌∷◌, ◌++◌, length, refl, sym, ◌∙◌, ap, ap₂, subst, arith}
-use Rattle.std.specs.Prelude.{ℤ, map}
+use Rattle.std.proofs.Common.{◌≡◌, ℕ, List, [], ◌∷◌, ◌++◌, length, sym, ◌∙◌, ap, ap₂, subst}
 use Rattle.std.specs.declared.option.Option.{Option}
 use Rattle.std.proofs.lemmas.List.{append-nil}
 use Rattle.tpz_io.specs.Told.{followed_by}
 use Rattle.tpz_io.specs.Writes.{Item, Wrote, WrotePrefix}
 use Rattle.tpz_base.specs.declared.shape.Point.{Point}
 use Rattle.tpz_base.specs.Meshes.{Mesh}
-use Rattle.tpz_base.specs.Cubes.{Row, shifted}
-use Rattle.tpz_base.specs.Texts.{Bytes, Face, vertices, face_in, text, ply_text}
+use Rattle.tpz_base.specs.Cubes.{Row}
+use Rattle.tpz_base.specs.Texts.{Bytes, Face, text}
 use Rattle.puzzle_cli.specs.declared.reading.InputMesh.{InputMesh}
 use Rattle.puzzle_cli.specs.declared.reading.Facts.{Facts}
-use Rattle.puzzle_cli.specs.declared.numbering.Numbered.{Numbered}
+use Rattle.cut_export.specs.declared.numbering.Numbered.{Numbered}
 use Rattle.puzzle_cli.specs.Finest.{finest_items, finest_note, finest_split, items_for, items_of, mesh_for, split_for, IsMeshOf}
 use Rattle.puzzle_cli.specs.Exports.{mesh_items}
-use Rattle.puzzle_cli.specs.Numbering.{numbered_mesh, IsNumbering}
-use Rattle.puzzle_cli.specs.Parts.{row_of, mesh_text}
-use Rattle.puzzle_cli.proofs.Pieces.{followed_by-nil}
-
--- the text of a numbering is that of its mesh
-numbered_text : (digits : ℕ) (low : Row) (n : Numbered) (M : Mesh) → numbered_mesh n ≡ M → IsNumbering n → mesh_text digits low n ≡ text M low digits
-numbered_text digits low n M is numbering =
-    ap₂ (λ (ps : List Point) (fs : List Face). ply_text digits (map (shifted low) ps) fs)
-    (numbering.keys ∙ ap vertices is) (numbering.faces ∙ ap (λ (N : Mesh). map (face_in (vertices N)) N) is)
+use Rattle.cut_export.specs.Numbering.{numbered_mesh, IsNumbering}
+use Rattle.cut_export.specs.Parts.{row_of}
+use Rattle.cut_export.proofs.Pieces.{followed_by-nil}
 
 pub nothing : (p0 p1 : Option (List Bytes)) (n0 n1 : Option Bytes) → p1 ≡ p0 → n1 ≡ n0 → Wrote [] p0 p1 n0 n1
 nothing p0 p1 n0 n1 parts notes = record { parts = parts ∙ sym (followed_by-nil p0); notes = notes ∙ sym (followed_by-nil n0) }
 
-module _ (digits : ℕ) (low : List ℤ) (n : Numbered) (line : Bytes) (p0 p1 p2 : Option (List Bytes)) (n0 n1 n2 : Option Bytes) (numbering : IsNumbering n)
-    (part : p1 ≡ followed_by p0 (mesh_text digits (row_of low) n ∷ [])) (same : n1 ≡ n0) where
-  one_part : p1 ≡ followed_by p0 (text (numbered_mesh n) (row_of low) digits ∷ [])
-  one_part = part ∙ ap (λ (t : Bytes). followed_by p0 (t ∷ [])) (numbered_text digits (row_of low) n (numbered_mesh n) refl numbering)
-
-  pub part_alone : p2 ≡ p1 → n2 ≡ n1 → WrotePrefix (mesh_items digits (row_of low) (numbered_mesh n) line) p0 p2 n0 n2
+module _ (digits : ℕ) (low : Row) (M : Mesh) (line : Bytes) (p0 p1 p2 : Option (List Bytes)) (n0 n1 n2 : Option Bytes)
+    (part : p1 ≡ followed_by p0 (text M low digits ∷ [])) (same : n1 ≡ n0) where
+  pub part_alone : p2 ≡ p1 → n2 ≡ n1 → WrotePrefix (mesh_items digits low M line) p0 p2 n0 n2
   unfolding mesh_items
-  part_alone parts notes = (1, record { parts = parts ∙ one_part; notes = notes ∙ same ∙ sym (followed_by-nil n0) })
+  part_alone parts notes = (1, record { parts = parts ∙ part; notes = notes ∙ same ∙ sym (followed_by-nil n0) })
 
-  pub part_and_note : p2 ≡ p1 → n2 ≡ followed_by n1 (line ++ 10 ∷ []) → Wrote (mesh_items digits (row_of low) (numbered_mesh n) line) p0 p2 n0 n2
+  pub part_and_note : p2 ≡ p1 → n2 ≡ followed_by n1 (line ++ 10 ∷ []) → Wrote (mesh_items digits low M line) p0 p2 n0 n2
   unfolding mesh_items
   part_and_note parts notes = record {
-    parts = parts ∙ one_part;
+    parts = parts ∙ part;
     notes = notes ∙ ap (λ (u : Option Bytes). followed_by u (line ++ 10 ∷ [])) same ∙ ap (followed_by n0) (sym (append-nil _));
   }
 

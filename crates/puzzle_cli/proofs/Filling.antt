@@ -1,12 +1,13 @@
 -- A stream to which triangles are added one by one.
 use Rattle.std.proofs.Common.{◌≡◌, ◌≢◌, ℕ, ◌+◌, ◌<◌, ◌≤◌, List, [], ◌∷◌, ◌++◌, take, length, get_or, refl, sym, ◌∙◌, ap, subst, arith, append_assoc, append-nil, add-zero, zero-add, inl, inr, Option, Some, None}
 use Rattle.std.proofs.lemmas.Bool.{cases_eq}
-use Rattle.std.specs.Prelude.{is_some, IsSome}
+use Rattle.std.specs.Prelude.{is_some, All, IsSome}
 use Rattle.std.specs.Option.{ForSome, option_map}
 use Rattle.std.proofs.lemmas.List.{take_more, length_push}
 use Rattle.tpz_base.specs.declared.shape.Tri.{Tri}
 use Rattle.tpz_base.specs.Meshes.{Mesh}
 use Rattle.tpz_base.specs.Texts.{Bytes}
+use Rattle.tri_stream.specs.Lists.{IsHeld}
 use Rattle.tri_stream.specs.declared.names.StreamId.{StreamId}
 use Rattle.tri_stream.specs.Streams.{StreamsState, count_of, list_of, told_list, total, IsLive, Keeps, LeavesOthers, Stands}
 use Rattle.puzzle_cli.specs.Leaves.{Fills, IsSourceOf}
@@ -77,6 +78,15 @@ live_count (Some n) o' k is live = rw is refl
 
 pub still_live : (id : StreamId) (tris : Mesh) (s0 s1 : StreamsState) (x y : Option Bytes) → Fills id tris s0 s1 x y → IsLive s0 id → IsLive s1 id
 still_live id tris s0 s1 x y fills live = live_count (count_of s0 id) (count_of s1 id) (length tris) fills.count live
+
+-- what a stream is told to hold is what it was filled with
+pub source_held : (l : ℕ) (tris : Mesh) (s : StreamsState) (id : StreamId) (now : Option Bytes) → ForSome now (λ bytes. told_list s now id ≡ Some tris) → All (IsHeld l) tris
+    → ForSome (told_list s now id) (All (IsHeld l))
+source_held l tris s id None list held M is = absurd cc
+source_held l tris s id (Some bytes) list held M is =
+    let same : ◌≡◌ {A = Option Mesh} (Some tris) (Some M) = sym (list bytes refl) ∙ is in
+    let both : tris ≡ M = cc in
+    subst (All (IsHeld l)) both held
 
 -- A stream that was just made, the first one, and then filled.
 

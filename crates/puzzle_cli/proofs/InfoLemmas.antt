@@ -1,5 +1,5 @@
 -- What a store that was opened says of itself.
-use Rattle.std.proofs.Common.{◌≡◌, ◌⊎◌, inl, inr, ℕ, List, [], ◌∷◌, ◌++◌, Bool, false, length, refl, sym, ◌∙◌, ap, ap₂, append_assoc}
+use Rattle.std.proofs.Common.{◌≡◌, ◌⊎◌, inl, inr, ℕ, List, [], ◌∷◌, ◌++◌, Bool, false, length, refl, sym, ◌∙◌, ap, append_assoc}
 use Rattle.std.specs.Prelude.{Option, Some, None, Ok, Err, true, replicate}
 use Rattle.std.specs.Option.{ForSome}
 use Rattle.std.proofs.lemmas.List.{append-nil, length-map}
@@ -11,7 +11,7 @@ use Rattle.patch_file.specs.declared.shape.Params.{Params}
 use Rattle.patch_file.specs.declared.shape.StoreBad.{StoreBad}
 use Rattle.patch_file.specs.declared.fault.OpenFault.{OpenFault}
 use Rattle.patch_file.specs.declared.fault.OpenFault.TheVariants as opening
-use Rattle.patch_file.specs.Tables.{Table, TableRecord}
+use Rattle.patch_file.specs.Tables.{Table}
 use Rattle.patch_file.specs.Stores.{read, numbers, table_of, record_at, read_block}
 use Rattle.patch_file.specs.Asking.{NotesAll}
 use Rattle.patch_file.specs.Reading.{ReaderState, is_spent, place_in, IsOpened}
@@ -20,7 +20,7 @@ use Rattle.puzzle_cli.specs.declared.status.Status.TheVariants as status
 use Rattle.puzzle_cli.specs.declared.status.ReadAt.TheVariants as read_at
 use Rattle.puzzle_cli.specs.Statuses.{open_status}
 use Rattle.puzzle_cli.specs.Info.{info_items, info_note}
-use Rattle.puzzle_cli.proofs.Pieces.{followed_by-nil}
+use Rattle.cut_export.proofs.Pieces.{followed_by-nil}
 
 some_bytes : (a b : Bytes) → Some a ≡ Some b → a ≡ b
 some_bytes a b e = cc

@@ -11,8 +11,8 @@ use Rattle.tpz_base.proofs.Elements.{at_all}
 use Rattle.ply_head.specs.Numbers.{are_digits, value}
 use Rattle.mesh_gen.specs.Generator.{IsSize}
 use Rattle.puzzle_cli.specs.declared.jobs.Job.{Job}
-use Rattle.puzzle_cli.specs.declared.jobs.Job.TheVariants.{Finest, Gen, Info}
-use Rattle.puzzle_cli.specs.Words.{Command, Given, Setting, asked, are_different, are_options, cap, commands, digits, finest, gen, given_in, info, is_met, is_of, is_value, job_with, number_for, size, text_for, tries}
+use Rattle.puzzle_cli.specs.declared.jobs.Job.TheVariants.{Finest, Build, Gen, Info, Replay, Tour}
+use Rattle.puzzle_cli.specs.Words.{Command, Given, Setting, asked, are_different, are_options, budget, build, cap, commands, digits, finest, gen, given_in, info, is_met, is_of, is_value, job_with, needed_for, number_for, replay, size, text_for, tour, tries}
 
 -- ---- what is given for an option
 
@@ -80,78 +80,127 @@ asked_for (word ∷ words) j is =
 
 -- ---- the values of each job
 
-digits_within : (d k : Option ℕ) (c : Command) (gs : List Given) → Member commands c → are_options c.settings gs ≡ true → c.job gs ≡ Finest d k → IfSome d (λ n. n ≤ 9)
-digits_within d k c gs m fits job =
+abbrev command_of : Job → Command
+command_of (Finest d k) = finest
+command_of (Build d k n) = build
+command_of (Gen n) = gen
+command_of (Info n) = info
+command_of (Replay n) = replay
+command_of (Tour d k b n) = tour
+
+-- a command makes jobs of its own
+made_by : (c : Command) (gs : List Given) → Member commands c → command_of (c.job gs) ≡ c
+made_by c gs m =
     elim m [
-      | inl e ↦
-          let fits' : are_options finest.settings gs ≡ true = subst (λ (x : Command). are_options x.settings gs ≡ true) (sym e) fits in
-          let job' : finest.job gs ≡ Finest d k = subst (λ (x : Command). x.job gs ≡ Finest d k) (sym e) job in
-          let same : number_for digits gs ≡ d = cc in
-          few d (subst (λ o. IfSome o (IsWithin digits)) same (given_within digits (text_for digits gs) (met finest.settings digits gs fits' (inl refl))))
-      | inr other ↦ elim other [
-        | inl e ↦ absurd (let job' : gen.job gs ≡ Finest d k = subst (λ (x : Command). x.job gs ≡ Finest d k) (sym e) job in cc)
-        | inr last ↦ elim last [
-          | inl e ↦ absurd (let job' : info.job gs ≡ Finest d k = subst (λ (x : Command). x.job gs ≡ Finest d k) (sym e) job in cc)
-          | inr none ↦ absurd none
+      | inl e ↦ subst (λ (x : Command). command_of (x.job gs) ≡ x) e refl
+      | inr m ↦ elim m [
+        | inl e ↦ subst (λ (x : Command). command_of (x.job gs) ≡ x) e refl
+        | inr m ↦ elim m [
+          | inl e ↦ subst (λ (x : Command). command_of (x.job gs) ≡ x) e refl
+          | inr m ↦ elim m [
+            | inl e ↦ subst (λ (x : Command). command_of (x.job gs) ≡ x) e refl
+            | inr m ↦ elim m [
+              | inl e ↦ subst (λ (x : Command). command_of (x.job gs) ≡ x) e refl
+              | inr m ↦ elim m [ inl e ↦ subst (λ (x : Command). command_of (x.job gs) ≡ x) e refl | inr none ↦ absurd none ]
+            ]
+          ]
         ]
       ]
     ]
-  where
-    few : (o : Option ℕ) → IfSome o (IsWithin digits) → IfSome o (λ n. n ≤ 9)
-    few None h = tt
-    few (Some n) h = h.1
+
+-- the options that were given for a job
+asked_with : (words : List Bytes) (j : Job) → asked words ≡ Some j → (gs : List Given) × (are_options (command_of j).settings gs ≡ true) × ((command_of j).job gs ≡ j)
+asked_with words j is =
+    let a = asked_for words j is in
+    let same : a.command ≡ command_of j = sym (made_by a.command a.given a.is_there) ∙ ap command_of a.job in (
+      a.given,
+      subst (λ (c : Command). are_options c.settings a.given ≡ true) same a.fits,
+      subst (λ (c : Command). c.job a.given ≡ j) same a.job,
+    )
+
+few_digits : (o : Option ℕ) → IfSome o (IsWithin digits) → IfSome o (λ n. n ≤ 9)
+few_digits None h = tt
+few_digits (Some n) h = h.1
+
+or_within : (s : Setting) (o : Option ℕ) (n : ℕ) → IsWithin s n → IfSome o (IsWithin s) → IsWithin s (unwrap_or o n)
+or_within s None n own h = own
+or_within s (Some m) n own h = h
 
 -- the digits that words ask for are at most 9
 pub asked_digits : (words : List Bytes) (d k : Option ℕ) → asked words ≡ Some (Finest d k) → IfSome d (λ n. n ≤ 9)
-asked_digits words d k is = let a = asked_for words (Finest d k) is in digits_within d k a.command a.given a.is_there a.fits a.job
+asked_digits words d k is =
+    let a = asked_with words (Finest d k) is in
+    let job : Finest (number_for digits a.0) (number_for cap a.0) ≡ Finest d k = a.2 in
+    let same : number_for digits a.0 ≡ d = cc in
+    few_digits d (subst (λ o. IfSome o (IsWithin digits)) same (given_within digits (text_for digits a.0) (met finest.settings digits a.0 a.1 (inl refl))))
 
-size_within : (n : ℕ) (c : Command) (gs : List Given) → Member commands c → are_options c.settings gs ≡ true → c.job gs ≡ Gen n → IsSize n
-size_within n c gs m fits job =
-    elim m [
-      | inl e ↦ absurd (let job' : finest.job gs ≡ Gen n = subst (λ (x : Command). x.job gs ≡ Gen n) (sym e) job in cc)
-      | inr other ↦ elim other [
-        | inl e ↦
-            let fits' : are_options gen.settings gs ≡ true = subst (λ (x : Command). are_options x.settings gs ≡ true) (sym e) fits in
-            let job' : gen.job gs ≡ Gen n = subst (λ (x : Command). x.job gs ≡ Gen n) (sym e) job in
-            let same : unwrap_or (number_for size gs) 0 ≡ n = cc in
-            let range = subst (IsWithin size) same (needed_within size (text_for size gs) refl (met gen.settings size gs fits' (inl refl))) in
-            record { least = range.0; most = range.1 }
-        | inr last ↦ elim last [
-          | inl e ↦ absurd (let job' : info.job gs ≡ Gen n = subst (λ (x : Command). x.job gs ≡ Gen n) (sym e) job in cc)
-          | inr none ↦ absurd none
-        ]
-      ]
-    ]
+-- the digits of a build are at most 9, and its cap and budget are in their ranges
+pub asked_plan : (words : List Bytes) (d : Option ℕ) (k n : ℕ) → asked words ≡ Some (Build d k n) → IfSome d (λ n. n ≤ 9) × (1 ≤ k) × (k ≤ 16777216) × (1 ≤ n) × (n ≤ 4194304)
+asked_plan words d k n is =
+    let a = asked_with words (Build d k n) is in
+    let job : Build (number_for digits a.0) (unwrap_or (number_for cap a.0) 1024) (unwrap_or (number_for budget a.0) 32768) ≡ Build d k n = a.2 in
+    let same : number_for digits a.0 ≡ d = cc in
+    let same_cap : unwrap_or (number_for cap a.0) 1024 ≡ k = cc in
+    let same_budget : unwrap_or (number_for budget a.0) 32768 ≡ n = cc in
+    let range = subst (IsWithin budget) same_budget (or_within budget (number_for budget a.0) 32768 (omega arith, omega arith) (given_within budget (text_for budget a.0) (met build.settings budget a.0 a.1 (inr (inr (inl refl)))))) in
+    let caps = subst (IsWithin cap) same_cap (or_within cap (number_for cap a.0) 1024 (omega arith, omega arith) (given_within cap (text_for cap a.0) (met build.settings cap a.0 a.1 (inr (inl refl))))) in (
+      few_digits d (subst (λ o. IfSome o (IsWithin digits)) same (given_within digits (text_for digits a.0) (met build.settings digits a.0 a.1 (inl refl)))),
+      caps.0,
+      caps.1,
+      range.0,
+      range.1,
+    )
 
 -- the size that words ask for is one of a mesh
 pub asked_size : (words : List Bytes) (n : ℕ) → asked words ≡ Some (Gen n) → IsSize n
-asked_size words n is = let a = asked_for words (Gen n) is in size_within n a.command a.given a.is_there a.fits a.job
-
-or_three_within : (o : Option ℕ) → IfSome o (IsWithin tries) → (1 ≤ unwrap_or o 3) × (unwrap_or o 3 ≤ 100)
-or_three_within None h = (omega arith, omega arith)
-or_three_within (Some n) h = h
-
-tries_within : (n : ℕ) (c : Command) (gs : List Given) → Member commands c → are_options c.settings gs ≡ true → c.job gs ≡ Info n → (1 ≤ n) × (n ≤ 100)
-tries_within n c gs m fits job =
-    elim m [
-      | inl e ↦ absurd (let job' : finest.job gs ≡ Info n = subst (λ (x : Command). x.job gs ≡ Info n) (sym e) job in cc)
-      | inr other ↦ elim other [
-        | inl e ↦ absurd (let job' : gen.job gs ≡ Info n = subst (λ (x : Command). x.job gs ≡ Info n) (sym e) job in cc)
-        | inr last ↦ elim last [
-          | inl e ↦
-              let fits' : are_options info.settings gs ≡ true = subst (λ (x : Command). are_options x.settings gs ≡ true) (sym e) fits in
-              let job' : info.job gs ≡ Info n = subst (λ (x : Command). x.job gs ≡ Info n) (sym e) job in
-              let same : unwrap_or (number_for tries gs) 3 ≡ n = cc in
-              subst (λ k. (1 ≤ k) × (k ≤ 100)) same (or_three_within (number_for tries gs) (given_within tries (text_for tries gs) (met info.settings tries gs fits' (inl refl))))
-          | inr none ↦ absurd none
-        ]
-      ]
-    ]
+asked_size words n is =
+    let a = asked_with words (Gen n) is in
+    let job : Gen (needed_for size a.0) ≡ Gen n = a.2 in
+    let same : needed_for size a.0 ≡ n = cc in
+    let range = subst (IsWithin size) same (needed_within size (text_for size a.0) refl (met gen.settings size a.0 a.1 (inl refl))) in
+    record { least = range.0; most = range.1 }
 
 -- the tries that words ask for are 1 to 100
 pub asked_tries : (words : List Bytes) (n : ℕ) → asked words ≡ Some (Info n) → (1 ≤ n) × (n ≤ 100)
-asked_tries words n is = let a = asked_for words (Info n) is in tries_within n a.command a.given a.is_there a.fits a.job
+asked_tries words n is =
+    let a = asked_with words (Info n) is in
+    let job : Info (unwrap_or (number_for tries a.0) 3) ≡ Info n = a.2 in
+    let same : unwrap_or (number_for tries a.0) 3 ≡ n = cc in
+    subst (IsWithin tries) same (or_within tries (number_for tries a.0) 3 (omega arith, omega arith) (given_within tries (text_for tries a.0) (met info.settings tries a.0 a.1 (inl refl))))
+
+pub asked_replay : (words : List Bytes) (n : ℕ) → asked words ≡ Some (Replay n) → (1 ≤ n) × (n ≤ 100)
+asked_replay words n is =
+    let a = asked_with words (Replay n) is in
+    let job : Replay (unwrap_or (number_for tries a.0) 3) ≡ Replay n = a.2 in
+    let same : unwrap_or (number_for tries a.0) 3 ≡ n = cc in
+    subst (IsWithin tries) same (or_within tries (number_for tries a.0) 3 (omega arith, omega arith) (given_within tries (text_for tries a.0) (met replay.settings tries a.0 a.1 (inl refl))))
+
+-- the same of a tour
+pub asked_tour : (words : List Bytes) (d : Option ℕ) (k b n : ℕ) → asked words ≡ Some (Tour d k b n) → IfSome d (λ m. m ≤ 9) × ((1 ≤ k) × (k ≤ 16777216)) × ((1 ≤ b) × (b ≤ 4194304)) × ((1 ≤ n) × (n ≤ 100))
+asked_tour words d k b n is =
+    let a = asked_with words (Tour d k b n) is in
+    let job : Tour (number_for digits a.0) (unwrap_or (number_for cap a.0) 1024) (unwrap_or (number_for budget a.0) 32768) (unwrap_or (number_for tries a.0) 3) ≡ Tour d k b n = a.2 in
+    let same : number_for digits a.0 ≡ d = cc in
+    let same_cap : unwrap_or (number_for cap a.0) 1024 ≡ k = cc in
+    let same_budget : unwrap_or (number_for budget a.0) 32768 ≡ b = cc in
+    let same_tries : unwrap_or (number_for tries a.0) 3 ≡ n = cc in (
+      few_digits d (subst (λ o. IfSome o (IsWithin digits)) same (given_within digits (text_for digits a.0) (met tour.settings digits a.0 a.1 (inl refl)))),
+      subst (IsWithin cap) same_cap (or_within cap (number_for cap a.0) 1024 (omega arith, omega arith) (given_within cap (text_for cap a.0) (met tour.settings cap a.0 a.1 (inr (inl refl))))),
+      subst (IsWithin budget) same_budget (or_within budget (number_for budget a.0) 32768 (omega arith, omega arith) (given_within budget (text_for budget a.0) (met tour.settings budget a.0 a.1 (inr (inr (inl refl)))))),
+      subst (IsWithin tries) same_tries (or_within tries (number_for tries a.0) 3 (omega arith, omega arith) (given_within tries (text_for tries a.0) (met tour.settings tries a.0 a.1 (inr (inr (inr (inl refl))))))),
+    )
 
 -- words ask for one job
 pub one_job : (o : Option Job) (i j : Job) → o ≡ Some i → o ≡ Some j → i ≡ j
 one_job o i j a b = let both : ◌≡◌ {A = Option Job} (Some i) (Some j) = sym a ∙ b in cc
+
+-- words that spell no options of a command give no job
+pub no_job : (c : Command) (words : List Bytes) → ((gs : List Given) → given_in words ≡ Some gs → are_options c.settings gs ≡ true → ⊥) → job_with words c ≡ None
+no_job c words none = at (given_in words) (λ gs e. none gs e) where
+  at : (o : Option (List Given)) → ((gs : List Given) → o ≡ Some gs → are_options c.settings gs ≡ true → ⊥) → option_and_then (λ gs. cond (are_options c.settings gs) (Some (c.job gs)) None) o ≡ None
+  at None f = refl
+  at (Some gs) f =
+      elim (cases_Bool (are_options c.settings gs)) [
+        | inl e ↦ absurd (f gs refl e)
+        | inr e ↦ rw e refl
+      ]

@@ -7,7 +7,7 @@ use Rattle.tpz_base.specs.Cubes.{level_bound}
 use Rattle.ply_body.specs.Inputs.{mesh_of}
 use Rattle.mesh_gen.proofs.Sums.{generated_closed}
 use Rattle.puzzle_cli.specs.declared.jobs.Job.{Job}
-use Rattle.puzzle_cli.specs.declared.jobs.Job.TheVariants.{Finest, Gen, Info}
+use Rattle.puzzle_cli.specs.declared.jobs.Job.TheVariants.{Finest, Build, Gen, Info, Replay}
 use Rattle.patch_file.specs.declared.shape.Params.{Params}
 use Rattle.patch_file.specs.declared.shape.StoreBad.{StoreBad}
 use Rattle.patch_file.specs.Asking.{RoseBy}
@@ -20,7 +20,8 @@ use Rattle.puzzle_cli.specs.declared.status.Status.{Status}
 use Rattle.puzzle_cli.specs.declared.status.Status.TheVariants as status
 use Rattle.puzzle_cli.specs.Gen.{gen_items}
 use Rattle.puzzle_cli.specs.Touches.{Devices, touched_by}
-use Rattle.puzzle_cli.specs.Runs.{FinestRun, GenRun, InfoRun}
+use Rattle.puzzle_cli.specs.Runs.{FinestRun, BuildRun, GenRun, InfoRun, ReplayRun}
+use Rattle.puzzle_cli.proofs.JobRanges.{one_job}
 use Rattle.puzzle_cli.proofs.RootCut.{each_once}
 use Rattle.puzzle_cli.proofs.Exports.{none_yet, nothing}
 
@@ -48,14 +49,30 @@ same_info {held} {held'} {outcomes} {out_failed} {p0} {p1} {n0} {n1} {answer} fa
     let p : n ≡ n' = cc in
     subst (λ x. InfoRun x held held' outcomes (RoseBy x faults faults') out_failed p0 p1 n0 n1 answer) p h
 
-pub info_or_finest : (o : Option Job) (n : ℕ) (d k : Option ℕ) → o ≡ Some (Info n) → o ≡ Some (Finest d k) → ⊥
-info_or_finest o n d k a b = let both : ◌≡◌ {A = Option Job} (Some (Info n)) (Some (Finest d k)) = sym a ∙ b in cc
+pub same_replay : {left held held' : Option Bytes} {outcomes : Option (List Bool)} {reads reads' : ℕ} {untouched script_failed out_failed : Type 0} {p0 p1 : Option (List Bytes)} {n0 n1 : Option Bytes} {answer : Status} (faults faults' : ℕ) (o : Option Job) (n n' : ℕ)
+    → o ≡ Some (Replay n) → o ≡ Some (Replay n') → ReplayRun n left held held' outcomes reads reads' untouched script_failed (RoseBy n faults faults') out_failed p0 p1 n0 n1 answer
+    → ReplayRun n' left held held' outcomes reads reads' untouched script_failed (RoseBy n' faults faults') out_failed p0 p1 n0 n1 answer
+same_replay {left} {held} {held'} {outcomes} {reads} {reads'} {untouched} {script_failed} {out_failed} {p0} {p1} {n0} {n1} {answer} faults faults' o n n' a b h =
+    let both : ◌≡◌ {A = Option Job} (Some (Replay n)) (Some (Replay n')) = sym a ∙ b in
+    let p : n ≡ n' = cc in
+    subst (λ x. ReplayRun x left held held' outcomes reads reads' untouched script_failed (RoseBy x faults faults') out_failed p0 p1 n0 n1 answer) p h
 
-pub info_or_gen : (o : Option Job) (n m : ℕ) → o ≡ Some (Info n) → o ≡ Some (Gen m) → ⊥
-info_or_gen o n m a b = let both : ◌≡◌ {A = Option Job} (Some (Info n)) (Some (Gen m)) = sym a ∙ b in cc
+pub same_build : {left worked held held' : Option Bytes} {reads reads' : ℕ} {untouched input_failed work_failed store_failed out_failed : Type 0} {p0 p1 : Option (List Bytes)} {n0 n1 : Option Bytes} {answer : Status}
+    (o : Option Job) (d : Option ℕ) (k n : ℕ) (d' : Option ℕ) (k' n' : ℕ) → o ≡ Some (Build d k n) → o ≡ Some (Build d' k' n')
+    → BuildRun d k n left worked held held' reads reads' untouched input_failed work_failed store_failed out_failed p0 p1 n0 n1 answer
+    → BuildRun d' k' n' left worked held held' reads reads' untouched input_failed work_failed store_failed out_failed p0 p1 n0 n1 answer
+same_build {left} {worked} {held} {held'} {reads} {reads'} {untouched} {input_failed} {work_failed} {store_failed} {out_failed} {p0} {p1} {n0} {n1} {answer} o d k n d' k' n' a b h =
+    let both : ◌≡◌ {A = Option Job} (Some (Build d k n)) (Some (Build d' k' n')) = sym a ∙ b in
+    let p : d ≡ d' = cc in
+    let q : k ≡ k' = cc in
+    let r : n ≡ n' = cc in
+    subst (λ x. BuildRun x k' n' left worked held held' reads reads' untouched input_failed work_failed store_failed out_failed p0 p1 n0 n1 answer) p
+    (subst (λ y. BuildRun d y n' left worked held held' reads reads' untouched input_failed work_failed store_failed out_failed p0 p1 n0 n1 answer) q
+    (subst (λ z. BuildRun d k z left worked held held' reads reads' untouched input_failed work_failed store_failed out_failed p0 p1 n0 n1 answer) r h))
 
-pub gen_or_finest : (o : Option Job) (n : ℕ) (d k : Option ℕ) → o ≡ Some (Gen n) → o ≡ Some (Finest d k) → ⊥
-gen_or_finest o n d k a b = let both : ◌≡◌ {A = Option Job} (Some (Gen n)) (Some (Finest d k)) = sym a ∙ b in cc
+-- words that ask for one job don't ask for another
+pub other_job : (o : Option Job) (i j : Job) → o ≡ Some i → o ≡ Some j → (i ≡ j → ⊥) → ⊥
+other_job o i j a b others = others (one_job o i j a b)
 
 pub some_or_none : (o : Option Job) (j : Job) → o ≡ Some j → o ≡ None → ⊥
 some_or_none o j a b = let both : ◌≡◌ {A = Option Job} (Some j) None = sym a ∙ b in cc

@@ -1,6 +1,3 @@
-pub mod PartLines
-pub mod Pieces
-pub mod NumberLemmas
 pub mod RootLoops
 pub mod Exports
 pub mod ReadLemmas
@@ -10,6 +7,8 @@ pub mod Filling
 pub mod JobRanges
 pub mod JobRuns
 pub mod Completing
+pub mod BuildRuns
+pub mod BuildSteps
 pub mod SplitMesh
 pub mod WorkedWords
 pub mod Parses
@@ -18,3 +17,13 @@ pub mod Spellings
 pub mod OptionWalks
 pub mod OptionTables
 pub mod InfoLemmas
+mod ShownLaw
+mod OpenLaw
+mod PlayLaw
+mod Progress
+mod ReplayRuns
+mod TourRuns
+pub mod WrittenBodies
+pub mod WrittenTexts
+pub mod WrittenMeshes
+mod WorkedTexts

@@ -23,17 +23,16 @@ use Rattle.ply_body.specs.declared.fault.BodyFault.TheVariants as body
 use Rattle.ply_body.specs.declared.frame.Frame.{Frame}
 use Rattle.ply_body.specs.Items.{◌>>=◌, MOST_BYTES, items_of}
 use Rattle.ply_body.specs.Bodies.{Input, no_input, elements}
-use Rattle.ply_body.specs.Inputs.{Refusal, InHead, InBody, refused_as, body as body_of, points_of, triangle_at, whole_of, broken_of, setting_of, mesh_of, dropped_of}
+use Rattle.ply_body.specs.Inputs.{Refusal, InHead, InBody, refused_as, body as body_of, triangle_at, whole_of, broken_of, setting_of, mesh_of, dropped_of}
 use Rattle.ply_body.specs.Spots.{coordinates, spots_of, rows_bytes, AreSpots, HoldsPoints, HoldsRows}
 use Rattle.ply_body.proofs.SpotRows.{length-rows_bytes}
 use Rattle.ply_body.proofs.CubeRows.{frame_spots}
 use Rattle.ply_body.specs.Readings.{with_faces, with_spots, coming_told, input_told, opened, IsRefusal, Reading}
 use Rattle.puzzle_cli.specs.declared.status.Status.{Status}
 use Rattle.puzzle_cli.specs.declared.status.Status.TheVariants.{WorkDamage}
-use Rattle.puzzle_cli.specs.Finest.{digits_by, digits_for, digits_of, input_for}
-use Rattle.puzzle_cli.specs.Parts.{IsLow}
+use Rattle.puzzle_cli.specs.Finest.{digits_for, digits_of, input_for}
 use Rattle.puzzle_cli.specs.Statuses.{head_status, body_status, status_of, IsRefused}
-use Rattle.puzzle_cli.specs.Readings.{AreWhole, HasOpened, IsRefusalTold, TrisTold}
+use Rattle.puzzle_cli.specs.Readings.{AreWhole, HasOpened, IsInputLow, IsRefusalTold, TrisTold}
 
 abbrev Coming : Type 0
 Coming = Option (Result (List Face) BodyFault)
@@ -298,7 +297,7 @@ small_at [] i all = omega arith
 small_at (z ∷ zs) zero all = All-head (λ z. unsigned_abs z ≤ 2147483647) z zs all
 small_at (z ∷ zs) (suc i) all = small_at zs i (All-tail (λ z. unsigned_abs z ≤ 2147483647) z zs all)
 
-pub low_small : (zs : List ℤ) → All (λ z. unsigned_abs z ≤ 2147483647) zs → IsLow zs
+pub low_small : (zs : List ℤ) → All (λ z. unsigned_abs z ≤ 2147483647) zs → IsInputLow zs
 low_small zs all = record { x = small_at zs 0 all; y = small_at zs 1 all; z = small_at zs 2 all }
 
 -- what is told before is told later, and what isn't told later wasn't told before

@@ -1,7 +1,7 @@
 -- Worked lists of words, with the jobs that they ask for.
 use Rattle.std.specs.Prelude.{◌≡◌, [], ◌∷◌, Some, None, codes}
 use Rattle.std.proofs.Common.{refl}
-use Rattle.puzzle_cli.specs.declared.jobs.Job.TheVariants.{Finest, Gen}
+use Rattle.puzzle_cli.specs.declared.jobs.Job.TheVariants.{Finest, Build, Gen}
 use Rattle.puzzle_cli.specs.Words.{asked, given_in}
 
 -- ---- taken
@@ -25,6 +25,14 @@ both_in_any_order = refl
 leading_zeros : asked (codes "finest" ∷ codes "--cap" ∷ codes "0000000001" ∷ []) ≡ Some (Finest None (Some 1))
 unfolding asked given_in
 leading_zeros = refl
+
+no_option_of_a_build : asked (codes "build" ∷ []) ≡ Some (Build None 1024 32768)
+unfolding asked given_in
+no_option_of_a_build = refl
+
+options_of_a_build : asked (codes "build" ∷ codes "--budget=4194304" ∷ codes "--cap" ∷ codes "1" ∷ codes "--digits=0" ∷ []) ≡ Some (Build (Some 0) 1 4194304)
+unfolding asked given_in
+options_of_a_build = refl
 
 needed_option : asked (codes "gen" ∷ codes "--size=1" ∷ []) ≡ Some (Gen 1)
 unfolding asked given_in
@@ -67,6 +75,10 @@ longer_command = refl
 option_first : asked (codes "--cap=1" ∷ codes "finest" ∷ []) ≡ None
 unfolding asked given_in
 option_first = refl
+
+budget_of_zero : asked (codes "build" ∷ codes "--budget=0" ∷ []) ≡ None
+unfolding asked given_in
+budget_of_zero = refl
 
 cap_of_zero : asked (codes "finest" ∷ codes "--cap" ∷ codes "0" ∷ []) ≡ None
 unfolding asked given_in

@@ -1,5 +1,5 @@
 -- The command `finest`: its words, and what it writes.
-use Rattle.std.specs.Prelude.{◌≡◌, ◌≤◌, ℕ, List, [], ◌∷◌, ◌++◌, length, map, codes, decimal, string_bytes, Option, Some, None, Result, Ok, Err, unwrap_or}
+use Rattle.std.specs.Prelude.{◌≡◌, ℕ, List, [], ◌∷◌, ◌++◌, length, map, codes, decimal, string_bytes, Option, Some, None, Result, Ok, Err, unwrap_or}
 use Rattle.std.specs.declared.string.String.{String}
 use Rattle.std.specs.declared.alloc.Global.{Global}
 use Rattle.tpz_io.specs.Writes.{Item, Part, Note}
@@ -20,7 +20,7 @@ use Rattle.puzzle_cli.specs.declared.reading.InputMesh.{InputMesh}
 use Rattle.puzzle_cli.specs.declared.reading.Facts.{Facts}
 use Rattle.puzzle_cli.specs.declared.jobs.Job.TheVariants.{Finest}
 use Rattle.puzzle_cli.specs.Words.{asked}
-use Rattle.puzzle_cli.specs.Parts.{row_of}
+use Rattle.cut_export.specs.Parts.{row_of}
 
 -- the words ask for `finest` with these digits and this cap
 abbrev pub AsksFinest : List (String Global) → Option ℕ → Option ℕ → Type 0

@@ -7,7 +7,7 @@ use Rattle.tpz_base.specs.Texts.{Bytes}
 use Rattle.mesh_gen.specs.Generator.{generated}
 use Rattle.puzzle_cli.specs.declared.jobs.Job.TheVariants.{Gen}
 use Rattle.puzzle_cli.specs.Words.{asked}
-use Rattle.puzzle_cli.specs.Parts.{row_at}
+use Rattle.cut_export.specs.Parts.{row_at}
 use Rattle.puzzle_cli.specs.Exports.{mesh_items}
 
 -- the words ask for `gen` with this size

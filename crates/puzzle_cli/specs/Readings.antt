@@ -1,5 +1,6 @@
 -- What was read of an input.
-use Rattle.std.specs.Prelude.{◌≡◌, ◌≤◌, ◌+◌, ◌^◌, ℕ, List, length, All, Option, Some, None, Result, Ok, Err}
+use Rattle.std.specs.Prelude.{◌≡◌, ◌≤◌, ◌+◌, ◌^◌, ℕ, List, length, All, Option, Some, None, Result, Ok, Err, ℤ, pos, unsigned_abs}
+use Rattle.std.specs.List.{slice_index_or}
 use Rattle.std.specs.Option.{ForSome}
 use Rattle.tpz_base.specs.Meshes.{Mesh}
 use Rattle.tpz_base.specs.Cubes.{Row, low_of, level_bound}
@@ -16,7 +17,6 @@ use Rattle.puzzle_cli.specs.declared.reading.InputMesh.{InputMesh}
 use Rattle.puzzle_cli.specs.declared.reading.InputStream.{InputStream}
 use Rattle.puzzle_cli.specs.declared.status.Status.{Status}
 use Rattle.puzzle_cli.specs.Finest.{digits_of, input_for}
-use Rattle.puzzle_cli.specs.Parts.{IsLow}
 use Rattle.puzzle_cli.specs.Statuses.{body_status}
 
 -- The whole triangles among those of some faces, by the points that are held, and how many aren't whole.
@@ -34,11 +34,17 @@ pub record TrisTold (old new : Reading) (told : Option Bytes) (held : Option Byt
 abbrev pub IsRefusalTold : {X : Type 0} → Result X BodyFault → Status → Type 0
 IsRefusalTold result status = (f : BodyFault) × (result ≡ Err f) × (status ≡ body_status f)
 
+-- Each of the least coordinates of an input is at most 2,147,483,647 in absolute value.
+pub record IsInputLow (zs : List ℤ) : Type 0 where
+  pub x : unsigned_abs (slice_index_or zs 0 (pos 0)) ≤ 2147483647
+  pub y : unsigned_abs (slice_index_or zs 1 (pos 0)) ≤ 2147483647
+  pub z : unsigned_abs (slice_index_or zs 2 (pos 0)) ≤ 2147483647
+
 -- The bounds of a mesh that was read, whatever source and blob tell.
 pub record IsSmallMesh (mesh : InputMesh) : Type 0 where
   pub level : (1 ≤ mesh.l) × (mesh.l ≤ 30)
   pub end : mesh.end ≤ 2 ^ 62
-  pub low : IsLow mesh.low
+  pub low : IsInputLow mesh.low
   pub plain : All (IsHeld mesh.l) mesh.tris.items
   pub few : length mesh.tris.items ≤ 2147483648
 
@@ -58,7 +64,7 @@ pub record HasOpened (chosen : Option ℕ) (told left held : Option Bytes) (scal
 
 -- The stream that was read is that of these digits, rows and faces.
 pub record IsStreamOf (read : InputStream) (now : Option Bytes) (scale : ℕ) (rows : List Row) (faces : List Face) : Type 0 where
-  pub l : read.streams.l ≡ level_bound rows
+  pub l : read.l ≡ level_bound rows
   pub digits : read.digits ≡ scale
   pub low : read.low ≡ coordinates (low_of rows)
   pub list : told_list read.streams now read.whole ≡ Some (mesh_of rows faces)
@@ -67,10 +73,13 @@ pub record IsStreamOf (read : InputStream) (now : Option Bytes) (scale : ℕ) (r
 
 -- The bounds of a stream that was read, whatever source and blob tell, and that there is no other.
 pub record IsSmallStream (now : Option Bytes) (read : InputStream) : Type 0 where
-  pub level : (1 ≤ read.streams.l) × (read.streams.l ≤ 30)
-  pub low : IsLow read.low
+  pub level : (1 ≤ read.l) × (read.l ≤ 30)
+  pub l : read.streams.l ≡ read.l
+  pub low : IsInputLow read.low
   pub count : count_of read.streams read.whole ≡ Some read.tris
   pub total : total read.streams ≡ read.tris
   pub only : (id : StreamId) → IsLive read.streams id → id ≡ read.whole
   pub stands : ForSome now (Stands read.streams)
   pub few : read.tris + read.dropped ≤ 2147483648
+  pub digits : read.digits ≤ 9
+  pub held : ForSome (told_list read.streams now read.whole) (All (IsHeld read.l))

@@ -12,8 +12,16 @@ use Rattle.patch_file.specs.declared.shape.StoreBad.{StoreBad}
 use Rattle.patch_file.specs.declared.shape.StoreBad.TheVariants as bad
 use Rattle.patch_file.specs.declared.fault.OpenFault.{OpenFault}
 use Rattle.patch_file.specs.declared.fault.OpenFault.TheVariants as opening
+use Rattle.patch_file.specs.declared.writer.WriteFault.{WriteFault}
+use Rattle.patch_file.specs.declared.writer.WriteFault.TheVariants as claim
+use Rattle.build_pass.specs.declared.fault.BuildFault.{BuildFault}
+use Rattle.build_pass.specs.declared.fault.BuildFault.TheVariants as build
+use Rattle.script_text.specs.declared.script.ScriptFault.{ScriptFault as ScriptRefusal}
+use Rattle.script_text.specs.declared.script.ScriptFault.TheVariants as scripts
+use Rattle.cut_export.specs.declared.export.ExportFault.{ExportFault}
+use Rattle.cut_export.specs.declared.export.ExportFault.TheVariants as export
 use Rattle.puzzle_cli.specs.declared.status.Status.{Status}
-use Rattle.puzzle_cli.specs.declared.status.Status.TheVariants.{Ok, Usage, BadInput, Extent, InputFault, WorkFault, WorkDamage, TooManyRecords, BadStore, ReadFault, OutFault, Memory}
+use Rattle.puzzle_cli.specs.declared.status.Status.TheVariants.{Ok, Usage, BadInput, Extent, InputFault, ScriptBad, ScriptFault, WorkFault, WorkDamage, StoreFault, NotEmpty, TooManyRecords, BadStore, ReadFault, OutFault, Memory}
 use Rattle.puzzle_cli.specs.declared.status.ReadAt.{ReadAt}
 use Rattle.puzzle_cli.specs.declared.status.ReadAt.TheVariants as read_at
 use Rattle.puzzle_cli.specs.declared.status.InputKind.{InputKind}
@@ -27,8 +35,12 @@ code_of Usage = 2
 code_of (BadInput kind place) = 3
 code_of (Extent axis least greatest) = 4
 code_of InputFault = 5
+code_of (ScriptBad line) = 6
+code_of ScriptFault = 7
 code_of WorkFault = 8
 code_of (WorkDamage offset) = 9
+code_of StoreFault = 10
+code_of (NotEmpty len) = 11
 code_of (BadStore why) = 12
 code_of (ReadFault at) = 13
 code_of OutFault = 14
@@ -78,8 +90,12 @@ line_of (BadInput kind place) = codes "tpz: bad input: " ++ (kind_text kind ++ (
 line_of (Extent axis least greatest) =
     codes "tpz: extent: axis " ++ (decimal axis ++ (codes " from " ++ (signed_decimal least ++ (codes " to " ++ (signed_decimal greatest ++ codes "; use fewer --digits")))))
 line_of InputFault = codes "tpz: input failed"
+line_of (ScriptBad line) = codes "tpz: bad script line " ++ decimal line
+line_of ScriptFault = codes "tpz: script failed"
 line_of WorkFault = codes "tpz: work file failed"
 line_of (WorkDamage offset) = codes "tpz: work file damaged at " ++ decimal offset
+line_of StoreFault = codes "tpz: store failed"
+line_of (NotEmpty len) = codes "tpz: the store is not empty: " ++ (decimal len ++ codes " bytes")
 line_of (BadStore why) = codes "tpz: bad store: " ++ bad_text why
 line_of (ReadFault at) = codes "tpz: store read failed at " ++ read_at_text at
 line_of OutFault = codes "tpz: output failed"
@@ -91,6 +107,16 @@ abbrev pub open_status : OpenFault → Status
 open_status (opening.Bad b) = BadStore b
 open_status opening.ReadFault = ReadFault read_at.Head
 open_status opening.Memory = Memory
+
+-- the status of a script that isn't read further
+abbrev pub script_status : ScriptRefusal → Status
+script_status (scripts.Bad line) = ScriptBad line
+script_status scripts.Input = ScriptFault
+
+-- the status of a part that isn't written
+abbrev pub export_status : ExportFault → Status
+export_status export.OutFault = OutFault
+export_status export.Memory = Memory
 
 -- The status of each fault of the header and of the rows.
 abbrev pub head_status : HeadFault → Status
@@ -122,6 +148,16 @@ abbrev pub split_status : SplitFault → Status
 split_status split.TooManyRecords = TooManyRecords
 split_status split.Memory = Memory
 
+-- the status of a store that isn't claimed
+abbrev pub claim_status : WriteFault → Status
+claim_status (claim.NotEmpty len) = NotEmpty len
+claim_status claim.StoreFault = StoreFault
+
+-- the status of a store that isn't built
+abbrev pub build_status : BuildFault → Status
+build_status build.StoreFault = StoreFault
+build_status build.Memory = Memory
+
 -- the status of a refusal of the input
 abbrev pub status_of : Refusal → Status
 status_of (InHead f) = head_status f
@@ -138,13 +174,53 @@ abbrev pub IsUnread : Status → Type 0
 IsUnread Ok = ⊥
 IsUnread Usage = ⊥
 IsUnread OutFault = ⊥
+IsUnread StoreFault = ⊥
+IsUnread (NotEmpty len) = ⊥
+IsUnread (ScriptBad line) = ⊥
+IsUnread ScriptFault = ⊥
 IsUnread TooManyRecords = ⊥
 IsUnread (BadStore why) = ⊥
 IsUnread (ReadFault at) = ⊥
 IsUnread _ = Unit {0}
 
--- what a command ends with that opens a store, and no other
+-- what a build may end with that wrote no store
+abbrev pub IsUnbuilt : Status → Type 0
+IsUnbuilt Ok = ⊥
+IsUnbuilt Usage = ⊥
+IsUnbuilt (ScriptBad line) = ⊥
+IsUnbuilt ScriptFault = ⊥
+IsUnbuilt (BadStore why) = ⊥
+IsUnbuilt (ReadFault at) = ⊥
+IsUnbuilt OutFault = ⊥
+IsUnbuilt _ = Unit {0}
+
+-- what a command ends with that opens or writes a store, or takes a script, and no other
 abbrev pub IsOfStore : Status → Type 0
+IsOfStore StoreFault = Unit {0}
+IsOfStore (NotEmpty len) = Unit {0}
+IsOfStore (ScriptBad line) = Unit {0}
+IsOfStore ScriptFault = Unit {0}
 IsOfStore (BadStore why) = Unit {0}
 IsOfStore (ReadFault at) = Unit {0}
 IsOfStore _ = ⊥
+
+-- what the lines of a script may end with before the last
+abbrev pub IsOfLines : Status → Type 0
+IsOfLines (ScriptBad line) = Unit {0}
+IsOfLines ScriptFault = Unit {0}
+IsOfLines (BadStore why) = Unit {0}
+IsOfLines (ReadFault (read_at.Record rec)) = Unit {0}
+IsOfLines OutFault = Unit {0}
+IsOfLines Memory = Unit {0}
+IsOfLines _ = ⊥
+
+-- what a replay may end with
+abbrev pub IsOfReplay : Status → Type 0
+IsOfReplay Ok = Unit {0}
+IsOfReplay (ScriptBad line) = Unit {0}
+IsOfReplay ScriptFault = Unit {0}
+IsOfReplay (BadStore why) = Unit {0}
+IsOfReplay (ReadFault at) = Unit {0}
+IsOfReplay OutFault = Unit {0}
+IsOfReplay Memory = Unit {0}
+IsOfReplay _ = ⊥

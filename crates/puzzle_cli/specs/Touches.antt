@@ -1,7 +1,7 @@
 -- Which devices a job touches. The others are left as they were.
 use Rattle.std.specs.Prelude.{Bool, true, false, Option, Some, None}
 use Rattle.puzzle_cli.specs.declared.jobs.Job.{Job}
-use Rattle.puzzle_cli.specs.declared.jobs.Job.TheVariants.{Finest, Gen, Info}
+use Rattle.puzzle_cli.specs.declared.jobs.Job.TheVariants.{Finest, Build, Gen, Info, Replay, Tour}
 
 pub record Devices : Type 0 where
   pub input : Bool
@@ -14,5 +14,8 @@ pub record Devices : Type 0 where
 abbrev pub touched_by : Option Job → Devices
 touched_by None = record { input = false; script = false; work = false; store = false; out = false }
 touched_by (Some (Finest digits cap)) = record { input = true; script = false; work = true; store = false; out = true }
+touched_by (Some (Build digits cap budget)) = record { input = true; script = false; work = true; store = true; out = true }
 touched_by (Some (Gen size)) = record { input = false; script = false; work = false; store = false; out = true }
 touched_by (Some (Info tries)) = record { input = false; script = false; work = false; store = true; out = true }
+touched_by (Some (Replay tries)) = record { input = false; script = true; work = false; store = true; out = true }
+touched_by (Some (Tour digits cap budget tries)) = record { input = true; script = true; work = true; store = true; out = true }

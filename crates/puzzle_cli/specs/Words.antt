@@ -6,7 +6,7 @@ use Rattle.std.specs.Str.{bytes_eq}
 use Rattle.tpz_base.specs.Texts.{Bytes}
 use Rattle.ply_head.specs.Numbers.{are_digits, value}
 use Rattle.puzzle_cli.specs.declared.jobs.Job.{Job}
-use Rattle.puzzle_cli.specs.declared.jobs.Job.TheVariants.{Finest, Gen, Info}
+use Rattle.puzzle_cli.specs.declared.jobs.Job.TheVariants.{Finest, Build, Gen, Info, Replay, Tour}
 
 -- ---- the options that words spell
 
@@ -109,6 +109,9 @@ digits = record { name = codes "digits"; least = 0; greatest = 9; is_required = 
 abbrev pub cap : Setting
 cap = record { name = codes "cap"; least = 1; greatest = 16777216; is_required = false }
 
+abbrev pub budget : Setting
+budget = record { name = codes "budget"; least = 1; greatest = 4194304; is_required = false }
+
 abbrev pub size : Setting
 size = record { name = codes "size"; least = 1; greatest = 500; is_required = true }
 
@@ -128,6 +131,13 @@ finest = record {
   job = λ gs. Finest (number_for digits gs) (number_for cap gs);
 }
 
+abbrev pub build : Command
+build = record {
+  name = codes "build";
+  settings = digits ∷ cap ∷ budget ∷ [];
+  job = λ gs. Build (number_for digits gs) (unwrap_or (number_for cap gs) 1024) (unwrap_or (number_for budget gs) 32768);
+}
+
 abbrev pub gen : Command
 gen = record {
   name = codes "gen";
@@ -142,8 +152,22 @@ info = record {
   job = λ gs. Info (unwrap_or (number_for tries gs) 3);
 }
 
+abbrev pub replay : Command
+replay = record {
+  name = codes "replay";
+  settings = tries ∷ [];
+  job = λ gs. Replay (unwrap_or (number_for tries gs) 3);
+}
+
+abbrev pub tour : Command
+tour = record {
+  name = codes "tour";
+  settings = digits ∷ cap ∷ budget ∷ tries ∷ [];
+  job = λ gs. Tour (number_for digits gs) (unwrap_or (number_for cap gs) 1024) (unwrap_or (number_for budget gs) 32768) (unwrap_or (number_for tries gs) 3);
+}
+
 abbrev pub commands : List Command
-commands = finest ∷ gen ∷ info ∷ []
+commands = finest ∷ build ∷ gen ∷ info ∷ replay ∷ tour ∷ []
 
 -- the job of a command with the options that the words behind it spell
 abbrev pub job_with : List Bytes → Command → Option Job

@@ -12,11 +12,11 @@ ghost use Rattle.assign.specs.Leaf.{leaf_patch};
 ghost use Rattle.puzzle_cli.specs.declared.status.Status.{Status};
 ghost use Rattle.assign.specs.Standing.{HoldsPatches};
 ghost use Rattle.puzzle_cli.specs.Leaves.{Adds, AreLive, KeepsStreams};
-ghost use Rattle.puzzle_cli.specs.Numbering.{numbered_mesh, IsNumbering};
+ghost use Rattle.cut_export.specs.Numbering.{numbered_mesh, IsNumbering};
 
 use crate::Status;
-use crate::numbering::Numbered;
 use assign::Split;
+use cut_export::Numbered;
 use std::alloc::Global;
 use tetra_name::{Half, Tet, child, member_count, root};
 use tpz_io::Blob;

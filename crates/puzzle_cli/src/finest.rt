@@ -8,16 +8,15 @@ ghost use Rattle.tpz_base.specs.Texts.{Face};
 ghost use Rattle.ply_body.specs.Inputs.{Refusal};
 ghost use Rattle.diamond_graph.specs.Adding.{most_centres};
 ghost use Rattle.puzzle_cli.specs.Finest.{digits_of, finest_items, finest_note, finest_split, input_for, items_of, IsAccepted};
-ghost use Rattle.puzzle_cli.specs.Numbering.{numbered_mesh, IsNumbering};
-ghost use Rattle.puzzle_cli.specs.Parts.{IsLow};
+ghost use Rattle.cut_export.specs.Numbering.{numbered_mesh, IsNumbering};
+ghost use Rattle.puzzle_cli.specs.Readings.{IsInputLow};
 ghost use Rattle.puzzle_cli.specs.Statuses.{status_of, IsOfStore, IsRefused};
 
 use crate::Status;
-use crate::export::write_mesh;
-use crate::numbering::Numbered;
-use crate::part_text::WriteFault;
+use crate::export::write_part_and_note;
 use crate::reading::{Facts, read_mesh};
 use crate::splitting::number;
+use cut_export::{ExportFault, Numbered};
 use std::alloc::{AllocError, Global};
 use tpz_io::{Blob, Out, Source};
 
@@ -39,17 +38,17 @@ fn export<O: Out>(
     mesh: &Numbered,
     facts: Facts,
     out: &mut O,
-) -> Result<(), WriteFault>
-    requires low { IsLow facts.low }
+) -> Result<(), ExportFault>
+    requires low { IsInputLow facts.low }
     requires numbering { IsNumbering mesh.now }
     ensures ok { OnOk result (Wrote (items_of facts (numbered_mesh mesh.now)) (O.parts out.old) (O.parts out.new) (O.notes out.old) (O.notes out.new)) }
     ensures front { WrotePrefix (items_of facts (numbered_mesh mesh.now)) (O.parts out.old) (O.parts out.new) (O.notes out.old) (O.notes out.new) }
     ensures later { O.faults out.old ≤ O.faults out.new }
-    ensures out { IsErrOf result WriteFault.OutFault → Rose (O.faults out.old) (O.faults out.new) }
+    ensures out { IsErrOf result ExportFault.OutFault → Rose (O.faults out.old) (O.faults out.new) }
 {
     let vertices = mesh.vertices.as_slice();
     let line = note_line(alloc, facts.tris, facts.dropped, vertices.len())?;
-    write_mesh(alloc, out, mesh, facts.digits, &facts.low, line.as_bytes())
+    write_part_and_note(alloc, mesh, facts.low, facts.digits, line.as_bytes(), out)
 }
 
 /// Reads an input, and writes its mesh in the order of its finest cut. Without digits those are taken that the types of the
@@ -100,7 +99,7 @@ pub fn finest<I: Source, W: Blob, O: Out>(
     };
     match export(alloc, &numbered, facts, out) {
         Ok(()) => Status::Ok,
-        Err(WriteFault::OutFault) => Status::OutFault,
-        Err(WriteFault::Memory) => Status::Memory,
+        Err(ExportFault::OutFault) => Status::OutFault,
+        Err(ExportFault::Memory) => Status::Memory,
     }
 }

@@ -6,12 +6,11 @@ ghost use Rattle.tpz_base.specs.declared.shape.Point.{Point};
 ghost use Rattle.tpz_base.specs.Meshes.{edge_sum};
 ghost use Rattle.mesh_gen.specs.Generator.{generated, IsSize};
 ghost use Rattle.puzzle_cli.specs.Gen.{gen_items, gen_note};
-ghost use Rattle.puzzle_cli.specs.Numbering.{numbered_mesh, IsNumbering};
+ghost use Rattle.cut_export.specs.Numbering.{numbered_mesh, IsNumbering};
 
 use crate::Status;
-use crate::export::write_mesh;
-use crate::numbering::Numbered;
-use crate::part_text::WriteFault;
+use crate::export::write_part_and_note;
+use cut_export::{ExportFault, Numbered};
 use mesh_gen::{gen_count, gen_tri};
 use std::alloc::{AllocError, Global};
 use tpz_io::Out;
@@ -38,16 +37,16 @@ fn number_generated(alloc: Global, size: u32) -> Result<Numbered, AllocError>
 }
 
 // Writes the part and the note of the mesh of this size.
-fn export<O: Out>(alloc: Global, size: u32, out: &mut O) -> Result<(), WriteFault>
+fn export<O: Out>(alloc: Global, size: u32, out: &mut O) -> Result<(), ExportFault>
     requires { IsSize size }
     ensures ok { OnOk result (Wrote (gen_items size) (O.parts out.old) (O.parts out.new) (O.notes out.old) (O.notes out.new)) }
     ensures front { WrotePrefix (gen_items size) (O.parts out.old) (O.parts out.new) (O.notes out.old) (O.notes out.new) }
     ensures later { O.faults out.old ≤ O.faults out.new }
-    ensures out { IsErrOf result WriteFault.OutFault → Rose (O.faults out.old) (O.faults out.new) }
+    ensures out { IsErrOf result ExportFault.OutFault → Rose (O.faults out.old) (O.faults out.new) }
 {
     let numbered = number_generated(alloc, size)?;
     let line = note_line(alloc, size, gen_count(size))?;
-    write_mesh(alloc, out, &numbered, 0, &[0, 0, 0], line.as_bytes())
+    write_part_and_note(alloc, &numbered, [0, 0, 0], 0, line.as_bytes(), out)
 }
 
 /// Writes the generated mesh of this size.
@@ -62,7 +61,7 @@ pub fn generate<O: Out>(alloc: Global, size: u32, out: &mut O) -> Status
 {
     match export(alloc, size, out) {
         Ok(()) => Status::Ok,
-        Err(WriteFault::OutFault) => Status::OutFault,
-        Err(WriteFault::Memory) => Status::Memory,
+        Err(ExportFault::OutFault) => Status::OutFault,
+        Err(ExportFault::Memory) => Status::Memory,
     }
 }

@@ -1,40 +1,17 @@
 // What the command `info` answers over stores in memory.
 use super::*;
-use crate::tests::{output, source, texts};
+use crate::tests::{output, run_on, source};
+use crate::worked_stores::{SQUARE, bytes_of};
 use patch_file::StoreBad;
 use std::process::Abort;
 use std::test::Fail;
 use tpz_io::MemBlob;
 
-// The store of a square of four triangles and two records.
-const SQUARE: [u8; 616] = [
-    84, 80, 90, 49, 1, 2, 0, 0, 0, 0, 0, 0, 0, 0, 0, 0, 0, 0, 0, 0, 0, 0, 0, 0, 0, 0, 0, 0, 0, 0,
-    0, 0, 4, 0, 0, 0, 0, 0, 0, 0, 0, 0, 0, 0, 0, 0, 0, 0, 1, 0, 0, 0, 0, 128, 0, 0, 2, 0, 0, 0, 0,
-    0, 0, 0, 8, 2, 0, 0, 0, 0, 0, 0, 104, 2, 0, 0, 0, 0, 0, 0, 4, 0, 0, 0, 4, 0, 0, 0, 4, 0, 0, 0,
-    0, 0, 0, 0, 2, 0, 0, 0, 0, 0, 0, 0, 0, 0, 0, 0, 0, 0, 0, 0, 0, 0, 0, 0, 4, 0, 0, 0, 4, 0, 0, 0,
-    2, 0, 0, 0, 140, 1, 0, 0, 0, 0, 0, 0, 124, 0, 0, 0, 0, 0, 0, 0, 4, 0, 0, 0, 4, 0, 0, 0, 0, 0,
-    0, 0, 2, 0, 0, 0, 2, 0, 0, 0, 0, 0, 0, 0, 0, 0, 0, 0, 0, 0, 0, 0, 0, 0, 0, 0, 4, 0, 0, 0, 4, 0,
-    0, 0, 0, 0, 0, 0, 208, 0, 0, 0, 0, 0, 0, 0, 188, 0, 0, 0, 0, 0, 0, 0, 1, 0, 0, 0, 0, 0, 0, 0,
-    0, 0, 0, 0, 0, 0, 0, 0, 4, 0, 0, 0, 0, 0, 0, 0, 0, 0, 0, 0, 2, 0, 0, 0, 2, 0, 0, 0, 0, 0, 0, 0,
-    1, 0, 0, 0, 4, 0, 0, 0, 0, 0, 0, 0, 0, 0, 0, 0, 4, 0, 0, 0, 4, 0, 0, 0, 0, 0, 0, 0, 2, 0, 0, 0,
-    2, 0, 0, 0, 0, 0, 0, 0, 1, 0, 0, 0, 0, 0, 0, 0, 4, 0, 0, 0, 0, 0, 0, 0, 0, 0, 0, 0, 0, 0, 0, 0,
-    0, 0, 0, 0, 2, 0, 0, 0, 2, 0, 0, 0, 0, 0, 0, 0, 1, 0, 0, 0, 4, 0, 0, 0, 4, 0, 0, 0, 0, 0, 0, 0,
-    0, 0, 0, 0, 4, 0, 0, 0, 0, 0, 0, 0, 2, 0, 0, 0, 2, 0, 0, 0, 0, 0, 0, 0, 1, 0, 0, 0, 2, 0, 0, 0,
-    2, 0, 0, 0, 0, 0, 0, 0, 0, 0, 0, 0, 0, 0, 0, 0, 0, 0, 0, 0, 1, 0, 0, 0, 4, 0, 0, 0, 0, 0, 0, 0,
-    0, 0, 0, 0, 4, 0, 0, 0, 4, 0, 0, 0, 0, 0, 0, 0, 0, 0, 0, 0, 0, 0, 0, 0, 0, 0, 0, 0, 0, 0, 0, 0,
-    0, 0, 0, 0, 0, 0, 0, 0, 1, 0, 0, 0, 4, 0, 0, 0, 4, 0, 0, 0, 0, 0, 0, 0, 0, 0, 0, 0, 4, 0, 0, 0,
-    0, 0, 0, 0, 0, 0, 0, 0, 0, 0, 0, 0, 0, 0, 0, 0, 0, 0, 0, 0, 0, 0, 0, 0, 0, 0, 0, 0, 0, 0, 0, 0,
-    0, 0, 0, 0, 0, 0, 0, 0, 0, 0, 0, 0, 0, 0, 0, 0, 1, 0, 0, 0, 4, 0, 0, 0, 0, 0, 0, 0, 0, 0, 0, 0,
-    4, 0, 0, 0, 4, 0, 0, 0, 0, 0, 0, 0, 0, 0, 0, 0, 0, 0, 0, 0, 0, 0, 0, 0, 0, 0, 0, 0, 1, 0, 0, 0,
-    4, 0, 0, 0, 4, 0, 0, 0, 0, 0, 0, 0, 0, 0, 0, 0, 4, 0, 0, 0, 0, 0, 0, 0, 0, 0, 0, 0, 0, 0, 0, 0,
-    0, 0, 0, 0, 0, 0, 0, 0, 0, 0, 0, 0, 0, 0, 0, 0,
-];
-
 const NOTE: &str =
     "info level 2 digits 0 tris 4 dropped 0 cap 1 budget 32768 records 2 bytes 616\n";
 
 fn square(alloc: Global) -> Result<Vec<u8>, Fail> {
-    Ok(SQUARE.to_vec(alloc)?)
+    bytes_of(alloc, &SQUARE)
 }
 
 // The store with this byte at a place.
@@ -48,21 +25,20 @@ fn changed(alloc: Global, at: usize, byte: u8) -> Result<Vec<u8>, Fail> {
 
 // Runs `info` over these bytes with calls that fail, and sees that the note was written where the answer is Ok, and nothing else.
 fn answer(rt: &impl Abort, alloc: Global, bytes: &[u8], fails: &[u64]) -> Result<Status, Fail> {
-    let words = texts(alloc, &["info", "--tries", "2"])?;
     let mut input = source(alloc, b"", &[1])?;
     let mut script = source(alloc, b"", &[1])?;
     let mut work = MemBlob::new(alloc, b"", 0, Vec::new(alloc))?;
     let mut store = MemBlob::new(alloc, bytes, 0, fails.to_vec(alloc)?)?;
     let mut out = output(alloc, &[])?;
-    let status = run(
+    let status = run_on(
         alloc,
-        &words,
+        &["info", "--tries", "2"],
         &mut input,
         &mut script,
         &mut work,
         &mut store,
         &mut out,
-    );
+    )?;
     let note = if status == Status::Ok { NOTE } else { "" };
     assert_eq!(rt; out.notes(), note.as_bytes());
     assert_eq!(rt; out.part_count(), 0);

@@ -2,7 +2,7 @@
 ghost use Rattle.std.specs.Prelude.{◌≡◌, ◌≤◌, ◌↔◌, ◌∷◌, IsTrue, Err, None, Some, List, IfOk, IfSome, map, string_bytes};
 ghost use Rattle.tpz_base.specs.Texts.{Bytes};
 ghost use Rattle.puzzle_cli.specs.declared.jobs.WordsFault.TheVariants.{Usage, Memory};
-ghost use Rattle.puzzle_cli.specs.Words.{Given, Spell, asked, finest, gen, given_in, info, job_with};
+ghost use Rattle.puzzle_cli.specs.Words.{Given, Spell, asked, build, finest, gen, given_in, info, job_with, replay, tour};
 
 use crate::options::{Setting, option_number, take_options};
 use std::alloc::{AllocError, Global};
@@ -16,12 +16,30 @@ pub enum Job {
         digits: Option<u8>,
         cap: Option<u32>,
     },
+    /// `build`: the digits behind the point that count, if they are given, the most triangles of a tetrahedron that isn't
+    /// bisected, and the most of a list that is simplified.
+    Build {
+        digits: Option<u8>,
+        cap: u32,
+        budget: u32,
+    },
     /// `gen`: how many squares are in a row on each side of the mesh.
     Gen {
         size: u32,
     },
     /// `info`: how often a call of the store is tried.
     Info {
+        tries: u32,
+    },
+    /// `replay`: how often a call of the store that opens it, or a block, is tried.
+    Replay {
+        tries: u32,
+    },
+    /// `tour`: what `build` and `replay` have.
+    Tour {
+        digits: Option<u8>,
+        cap: u32,
+        budget: u32,
         tries: u32,
     },
 }
@@ -55,6 +73,13 @@ const CAP: Setting = Setting {
     name: "cap",
     least: 1,
     greatest: 16_777_216,
+    is_required: false,
+};
+
+const BUDGET: Setting = Setting {
+    name: "budget",
+    least: 1,
+    greatest: 4_194_304,
     is_required: false,
 };
 
@@ -94,11 +119,20 @@ fn read_command(alloc: Global, command: &String, words: &[String]) -> Result<Job
     if is_named(command, "finest") {
         return read_finest(alloc, words);
     }
+    if is_named(command, "build") {
+        return read_build(alloc, words);
+    }
     if is_named(command, "gen") {
         return read_gen(alloc, words);
     }
     if is_named(command, "info") {
         return read_info(alloc, words);
+    }
+    if is_named(command, "replay") {
+        return read_replay(alloc, words);
+    }
+    if is_named(command, "tour") {
+        return read_tour(alloc, words);
     }
     Err(WordsFault::Usage)
 }
@@ -123,6 +157,22 @@ fn read_finest(alloc: Global, words: &[String]) -> Result<Job, WordsFault>
     })
 }
 
+fn read_build(alloc: Global, words: &[String]) -> Result<Job, WordsFault>
+    ensures ok { IfOk result (λ job. job_with (map string_bytes words.now) build ≡ Some job) }
+    ensures usage { result ≡ Err Usage → job_with (map string_bytes words.now) build ≡ None }
+{
+    let settings = [DIGITS, CAP, BUDGET];
+    let matches = take_options(alloc, &settings, words)?;
+    let digits = option_number(&matches, &DIGITS)?;
+    let cap = option_number(&matches, &CAP)?.unwrap_or(1024);
+    let budget = option_number(&matches, &BUDGET)?.unwrap_or(32_768);
+    Ok(Job::Build {
+        digits: byte_of(digits),
+        cap,
+        budget,
+    })
+}
+
 fn read_gen(alloc: Global, words: &[String]) -> Result<Job, WordsFault>
     ensures ok { IfOk result (λ job. job_with (map string_bytes words.now) gen ≡ Some job) }
     ensures usage { result ≡ Err Usage → job_with (map string_bytes words.now) gen ≡ None }
@@ -143,6 +193,30 @@ fn read_info(alloc: Global, words: &[String]) -> Result<Job, WordsFault>
     let matches = take_options(alloc, &settings, words)?;
     let tries = option_number(&matches, &TRIES)?.unwrap_or(3);
     Ok(Job::Info { tries })
+}
+
+fn read_replay(alloc: Global, words: &[String]) -> Result<Job, WordsFault>
+    ensures ok { IfOk result (λ job. job_with (map string_bytes words.now) replay ≡ Some job) }
+    ensures usage { result ≡ Err Usage → job_with (map string_bytes words.now) replay ≡ None }
+{
+    let settings = [TRIES];
+    let matches = take_options(alloc, &settings, words)?;
+    let tries = option_number(&matches, &TRIES)?.unwrap_or(3);
+    Ok(Job::Replay { tries })
+}
+
+fn read_tour(alloc: Global, words: &[String]) -> Result<Job, WordsFault>
+    ensures ok { IfOk result (λ job. job_with (map string_bytes words.now) tour ≡ Some job) }
+    ensures usage { result ≡ Err Usage → job_with (map string_bytes words.now) tour ≡ None }
+{
+    let settings = [DIGITS, CAP, BUDGET, TRIES];
+    let matches = take_options(alloc, &settings, words)?;
+    Ok(Job::Tour {
+        digits: byte_of(option_number(&matches, &DIGITS)?),
+        cap: option_number(&matches, &CAP)?.unwrap_or(1024),
+        budget: option_number(&matches, &BUDGET)?.unwrap_or(32_768),
+        tries: option_number(&matches, &TRIES)?.unwrap_or(3),
+    })
 }
 
 // A number below 256 as a byte.

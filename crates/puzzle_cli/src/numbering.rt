@@ -1,96 +1,37 @@
-// The vertices of a mesh in the order of first use, and its triangles by the numbers of their corners.
-ghost use Rattle.std.specs.Prelude.{◌≡◌, ◌≤◌, ◌<◌, ◌++◌, ◌∷◌, ◌^◌, [], length, filter, IfOk, OnOk};
-ghost use Rattle.indexmap.specs.IndexSet.{insert_key};
-ghost use Rattle.tpz_base.specs.Points.{point_eq};
+// The mesh of a cut without diamonds: the triangles of each root in turn, with their vertices numbered.
+ghost use Rattle.std.specs.Prelude.{◌≡◌, ◌++◌, ◌∷◌, [], filter, IfOk, OnOk};
 ghost use Rattle.tpz_base.specs.Roots.{root_part, mesh_by_roots};
-ghost use Rattle.tpz_base.specs.Texts.{number_in};
-ghost use Rattle.puzzle_cli.specs.Numbering.{numbered_mesh, is_outside, IsNumbering};
+ghost use Rattle.cut_export.specs.Numbering.{numbered_mesh, IsNumbering};
+ghost use Rattle.puzzle_cli.specs.Numbering.{is_outside};
 
 use assign::root_of;
-use indexmap::IndexSet;
+use cut_export::Numbered;
 use std::alloc::{AllocError, Global};
-use tpz_base::{Point, Tri};
+use tpz_base::Tri;
 
-/// A triangle by the numbers of its corners.
-#[derive(Clone, Copy, Debug, PartialEq, Eq)]
-pub struct Corners {
-    pub a: u32,
-    pub b: u32,
-    pub c: u32,
-}
-
-/// A mesh whose vertices are numbered from 0 in the order of first use.
-#[derive(Drop)]
-pub struct Numbered {
-    pub vertices: IndexSet<Point>,
-    pub faces: Vec<Corners>,
-}
-
-// The greatest number of a point.
-const MOST: usize = 4_294_967_295;
-
-// The number of p, which is a new one at the end where p wasn't there. Numbers have 32 bits; for more points there is no
-// room. The points of an input are fewer.
-fn number(vertices: &mut IndexSet<Point>, p: Point) -> Result<u32, AllocError>
-    ensures keys { OnOk result (vertices.new.keys ≡ insert_key point_eq vertices.old.keys p) }
-    ensures number { IfOk result (λ n. n ≡ number_in vertices.new.keys p) }
+// Adds a triangle at the end of the mesh where it is in this root.
+#[tactic(auto, using(crate::proofs::RootLoops::in_root, crate::proofs::RootLoops::not_in_root))]
+fn add_in_root(numbered: &mut Numbered, t: &Tri, place: u8) -> Result<(), AllocError>
+    requires { IsNumbering numbered.old }
+    ensures mesh { OnOk result (numbered_mesh numbered.new ≡ numbered_mesh numbered.old ++ root_part (t.now ∷ []) place) }
+    ensures numbering { OnOk result (IsNumbering numbered.new) }
 {
-    let (index, _) = vertices.insert_full(p)?;
-    if index > MOST {
-        return Err(AllocError);
+    if root_of(t) != place {
+        return Ok(());
     }
-    Ok(index as u32)
+    numbered.add(t)
 }
 
-impl Numbered {
-    /// No vertex and no triangle, and room for so many triangles. A closed mesh has about half as many vertices as
-    /// triangles; room for a few more is taken at once.
-    pub fn with_room(alloc: Global, tris: usize) -> Result<Self, AllocError>
-        ensures mesh { IfOk result (λ numbered. numbered_mesh numbered ≡ []) }
-        ensures numbering { IfOk result IsNumbering }
-    {
-        let vertices = IndexSet::with_capacity(alloc, tris / 8 * 5)?;
-        let faces = Vec::with_capacity(alloc, tris)?;
-        Ok(Numbered { vertices, faces })
+// Adds the triangles of a root, in order, at the end of the mesh.
+fn add_root(numbered: &mut Numbered, tris: &[Tri], place: u8) -> Result<(), AllocError>
+    requires { IsNumbering numbered.old }
+    ensures mesh { OnOk result (numbered_mesh numbered.new ≡ numbered_mesh numbered.old ++ root_part tris.now place) }
+    ensures numbering { OnOk result (IsNumbering numbered.new) }
+{
+    'tris: for t in tris {
+        add_in_root(numbered, t, place)?;
     }
-
-    /// Adds a triangle at the end of the mesh.
-    pub fn add(&mut self, t: &Tri) -> Result<(), AllocError>
-        requires { IsNumbering self.old }
-        ensures mesh { OnOk result (numbered_mesh self.new ≡ numbered_mesh self.old ++ t.now ∷ []) }
-        ensures numbering { OnOk result (IsNumbering self.new) }
-    {
-        let a = number(&mut self.vertices, t.a)?;
-        let b = number(&mut self.vertices, t.b)?;
-        let c = number(&mut self.vertices, t.c)?;
-        self.faces.push(Corners { a, b, c })?;
-        Ok(())
-    }
-
-    // Adds a triangle at the end of the mesh where it is in this root.
-    #[tactic(auto, using(crate::proofs::RootLoops::in_root, crate::proofs::RootLoops::not_in_root))]
-    fn add_in_root(&mut self, t: &Tri, place: u8) -> Result<(), AllocError>
-        requires { IsNumbering self.old }
-        ensures mesh { OnOk result (numbered_mesh self.new ≡ numbered_mesh self.old ++ root_part (t.now ∷ []) place) }
-        ensures numbering { OnOk result (IsNumbering self.new) }
-    {
-        if root_of(t) != place {
-            return Ok(());
-        }
-        self.add(t)
-    }
-
-    // Adds the triangles of a root, in order, at the end of the mesh.
-    fn add_root(&mut self, tris: &[Tri], place: u8) -> Result<(), AllocError>
-        requires { IsNumbering self.old }
-        ensures mesh { OnOk result (numbered_mesh self.new ≡ numbered_mesh self.old ++ root_part tris.now place) }
-        ensures numbering { OnOk result (IsNumbering self.new) }
-    {
-        'tris: for t in tris {
-            self.add_in_root(t, place)?;
-        }
-        Ok(())
-    }
+    Ok(())
 }
 
 // Whether a triangle stays where those of this root go.
@@ -117,7 +58,7 @@ pub fn number_by_roots(alloc: Global, mut tris: Vec<Tri>) -> Result<Numbered, Al
 {
     let mut numbered = Numbered::with_room(alloc, tris.len())?;
     'roots: for place in 0..6u8 {
-        numbered.add_root(&tris, place)?;
+        add_root(&mut numbered, &tris, place)?;
         let_go(&mut tris, place);
     }
     Ok(numbered)

@@ -14,7 +14,6 @@ ghost use Rattle.tri_stream.specs.Streams.{total, IsLive, Stands};
 ghost use Rattle.puzzle_cli.specs.declared.status.Status.{Status};
 ghost use Rattle.puzzle_cli.specs.Finest.{digits_of, input_for, IsAccepted, IsMeshOf};
 ghost use Rattle.puzzle_cli.specs.Leaves.{Fills};
-ghost use Rattle.puzzle_cli.specs.Parts.{IsLow};
 ghost use Rattle.puzzle_cli.specs.Readings.{HasOpened, IsRefusalTold, IsSmallMesh, IsSmallStream, IsStreamOf, TrisTold};
 ghost use Rattle.puzzle_cli.specs.Statuses.{status_of, IsRefused, IsUnread};
 
@@ -47,6 +46,8 @@ pub struct InputMesh {
 /// An input whose whole triangles are in one stream, which is the only one.
 #[derive(Drop)]
 pub struct InputStream {
+    /// The cube has 2^l units.
+    pub l: u8,
     /// Coordinates are scaled by 10 to this power.
     pub digits: u8,
     /// The least coordinates of all rows, on x, y and z; 0 where there are no rows.
@@ -55,7 +56,7 @@ pub struct InputStream {
     pub tris: u64,
     /// How many have two corners at one place.
     pub dropped: u64,
-    /// Their cube has 2^l units. They use the work file behind the points.
+    /// They use the work file behind the points.
     pub streams: Streams,
     /// The stream of the whole triangles in the order of the faces, less `low`.
     pub whole: StreamId,
@@ -144,6 +145,7 @@ fn open_input<I: Source, W: Blob>(
     requires { IfSome digits (λ d. d ≤ 9) }
     ensures opened { IfOk result (λ opened. HasOpened digits (I.left input.old) (I.left input.new) (W.held work.new) opened.digits opened.frame opened.faces) }
     ensures small { IfOk result (λ opened. IsSmallFrame opened.frame) }
+    ensures digits { IfOk result (λ opened. opened.digits ≤ 9) }
     ensures refused { (status : Status) → result ≡ Err status → IsRefused status
         → ForSome (I.left input.old) (λ bytes. (r : Refusal) × (input_for digits bytes ≡ Err r) × (status ≡ status_of r)) }
     ensures unread { (status : Status) → result ≡ Err status → IsUnread status }
@@ -230,7 +232,8 @@ fn stream_tris<I: Source, W: Blob>(
     requires empty { total streams.old ≡ 0 }
     requires stands { ForSome (W.held work.old) (Stands streams.old) }
     ensures tris { OnOk result ((tris : Mesh) × TrisTold faces.old faces.new (I.left input.old) (W.held work.old) frame.now tris
-        × Fills whole tris streams.old streams.new (W.held work.old) (W.held work.new) × (length tris + faces.new.dropped ≤ 2147483648)) }
+        × Fills whole tris streams.old streams.new (W.held work.old) (W.held work.new) × (length tris + faces.new.dropped ≤ 2147483648)
+        × All (IsHeld frame.now.l) tris) }
     ensures refused { (status : Status) → result ≡ Err status → IsRefused status
         → ForSome (coming_told faces.old (I.left input.old)) (λ coming. IsRefusalTold coming status) }
     ensures unread { (status : Status) → result ≡ Err status → IsUnread status }
@@ -288,6 +291,7 @@ pub fn read_stream<I: Source, W: Blob>(
         Err(status) => return Err(status),
     }
     Ok(InputStream {
+        l: frame.l,
         digits: opened.digits,
         low: frame.low,
         tris: streams.count(whole),

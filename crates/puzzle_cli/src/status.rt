@@ -2,11 +2,14 @@
 ghost use Rattle.std.specs.Prelude.{◌≡◌, ◌++◌, IfOk, codes, string_bytes};
 ghost use Rattle.puzzle_cli.specs.declared.status.Status.TheVariants.{BadInput, Memory};
 ghost use Rattle.puzzle_cli.specs.declared.status.Place.TheVariants.{Line, Row};
-ghost use Rattle.puzzle_cli.specs.Statuses.{bad_text, body_status, head_status, kind_text, open_status, place_text, read_at_text, split_status};
+ghost use Rattle.puzzle_cli.specs.Statuses.{bad_text, body_status, build_status, claim_status, export_status, head_status, kind_text, open_status, place_text, read_at_text, script_status, split_status};
 
-use patch_file::{OpenFault, StoreBad};
+use build_pass::BuildFault;
+use cut_export::ExportFault;
+use patch_file::{OpenFault, StoreBad, WriteFault};
 use ply_body::BodyFault;
 use ply_head::HeadFault;
+use script_text::ScriptFault;
 use split_pass::SplitFault;
 use std::alloc::{AllocError, AllocFailed, Global};
 use tri_stream::StreamFault;
@@ -57,10 +60,18 @@ pub enum Status {
     Extent { axis: u8, least: i64, greatest: i64 },
     /// A read of the input failed.
     InputFault,
+    /// This line of the script, from 1, is outside the grammar.
+    ScriptBad { line: u64 },
+    /// A read of the script failed.
+    ScriptFault,
     /// A call of the work file failed.
     WorkFault,
     /// The work file gave back what was never written to it, at this offset in bytes.
     WorkDamage { offset: u64 },
+    /// A call of the store failed, in a build.
+    StoreFault,
+    /// The store isn't empty, before a build: its length in bytes.
+    NotEmpty { len: u64 },
     /// More than 67,108,864 diamonds would be split.
     TooManyRecords,
     /// The store is refused: why, and where.
@@ -86,8 +97,12 @@ impl Status {
             Status::BadInput { .. } => 3,
             Status::Extent { .. } => 4,
             Status::InputFault => 5,
+            Status::ScriptBad { .. } => 6,
+            Status::ScriptFault => 7,
             Status::WorkFault => 8,
             Status::WorkDamage { .. } => 9,
+            Status::StoreFault => 10,
+            Status::NotEmpty { .. } => 11,
             Status::BadStore(_) => 12,
             Status::ReadFault { .. } => 13,
             Status::OutFault => 14,
@@ -115,9 +130,15 @@ impl Status {
                 "tpz: extent: axis {axis} from {least} to {greatest}; use fewer --digits"
             ),
             Status::InputFault => String::from_str(alloc, "tpz: input failed"),
+            Status::ScriptBad { line } => format!(in alloc; "tpz: bad script line {line}"),
+            Status::ScriptFault => String::from_str(alloc, "tpz: script failed"),
             Status::WorkFault => String::from_str(alloc, "tpz: work file failed"),
             Status::WorkDamage { offset } => format!(in alloc;
                 "tpz: work file damaged at {offset}"
+            ),
+            Status::StoreFault => String::from_str(alloc, "tpz: store failed"),
+            Status::NotEmpty { len } => format!(in alloc;
+                "tpz: the store is not empty: {len} bytes"
             ),
             Status::BadStore(bad) => bad_store_line(alloc, bad),
             Status::ReadFault { at } => read_fault_line(alloc, at),
@@ -234,6 +255,26 @@ pub fn status_of_open(fault: OpenFault) -> Status
     }
 }
 
+/// The status of a script that isn't read further.
+pub fn status_of_script(fault: ScriptFault) -> Status
+    ensures { result ≡ script_status fault }
+{
+    match fault {
+        ScriptFault::Bad { line } => Status::ScriptBad { line },
+        ScriptFault::Input => Status::ScriptFault,
+    }
+}
+
+/// The status of a part that isn't written.
+pub fn status_of_export(fault: ExportFault) -> Status
+    ensures { result ≡ export_status fault }
+{
+    match fault {
+        ExportFault::OutFault => Status::OutFault,
+        ExportFault::Memory => Status::Memory,
+    }
+}
+
 // The status of an input that is refused at a line of its header.
 fn at_line(kind: InputKind, line: u64) -> Status
     ensures { result ≡ BadInput kind (Line line) }
@@ -279,6 +320,26 @@ pub fn status_of_split(fault: SplitFault) -> Status
     match fault {
         SplitFault::TooManyRecords => Status::TooManyRecords,
         SplitFault::Memory => Status::Memory,
+    }
+}
+
+/// The status of a store that isn't claimed.
+pub fn status_of_claim(fault: WriteFault) -> Status
+    ensures { result ≡ claim_status fault }
+{
+    match fault {
+        WriteFault::NotEmpty { len } => Status::NotEmpty { len },
+        WriteFault::StoreFault => Status::StoreFault,
+    }
+}
+
+/// The status of a store that isn't built.
+pub fn status_of_build(fault: BuildFault) -> Status
+    ensures { result ≡ build_status fault }
+{
+    match fault {
+        BuildFault::StoreFault => Status::StoreFault,
+        BuildFault::Memory => Status::Memory,
     }
 }
 

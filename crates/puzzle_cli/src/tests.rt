@@ -11,7 +11,7 @@ pub(crate) fn source(alloc: Global, bytes: &[u8], fails: &[u64]) -> Result<MemSo
 }
 
 // A blob with room for so many bytes, of which these calls fail.
-fn blob(alloc: Global, room: u64, fails: &[u64]) -> Result<MemBlob, Fail> {
+pub(crate) fn blob(alloc: Global, room: u64, fails: &[u64]) -> Result<MemBlob, Fail> {
     let fails = fails.to_vec(alloc)?;
     Ok(MemBlob::new(alloc, b"", room, fails)?)
 }
@@ -29,8 +29,22 @@ pub(crate) fn texts(alloc: Global, words: &[&str]) -> Result<Vec<String>, Fail> 
     Ok(texts)
 }
 
-fn is_unread<I: Source>(source: &mut I) -> bool {
+pub(crate) fn is_unread<I: Source>(source: &mut I) -> bool {
     source.read(&mut [0]) == Err(Failed)
+}
+
+// Runs the command of these words. Each test calls `run` through it, since what `run` promises is much to carry along.
+pub(crate) fn run_on(
+    alloc: Global,
+    words: &[&str],
+    input: &mut MemSource,
+    script: &mut MemSource,
+    work: &mut MemBlob,
+    store: &mut MemBlob,
+    out: &mut MemOut,
+) -> Result<Status, Fail> {
+    let words = texts(alloc, words)?;
+    Ok(run(alloc, &words, input, script, work, store, out))
 }
 
 // Runs the command of these words, and sees that script and store, whose first call fails, get none.
@@ -42,10 +56,9 @@ fn run_over(
     work: &mut MemBlob,
     out: &mut MemOut,
 ) -> Result<Status, Fail> {
-    let words = texts(alloc, words)?;
     let mut script = source(alloc, b"", &[1])?;
     let mut store = blob(alloc, 0, &[1])?;
-    let status = run(alloc, &words, input, &mut script, work, &mut store, out);
+    let status = run_on(alloc, words, input, &mut script, work, &mut store, out)?;
     assert!(rt; is_unread(&mut script));
     assert_eq!(rt; store.len(), Err(Failed));
     Ok(status)
@@ -64,11 +77,11 @@ fn run_words(
 }
 
 // A mesh: how many vertices and faces it has, and their lines.
-type Mesh = (u32, u32, &'static str);
+pub(crate) type Mesh = (u32, u32, &'static str);
 
-const ONE_TRIANGLE: Mesh = (3, 1, "0 0 0\n4 0 0\n0 4 0\n3 0 1 2\n");
+pub(crate) const ONE_TRIANGLE: Mesh = (3, 1, "0 0 0\n4 0 0\n0 4 0\n3 0 1 2\n");
 
-const SQUARE: Mesh = (
+pub(crate) const SQUARE: Mesh = (
     5,
     4,
     "0 0 0\n4 0 0\n4 4 0\n0 4 0\n2 2 0\n3 0 1 4\n3 1 2 4\n3 2 3 4\n3 3 0 4\n",
@@ -134,7 +147,7 @@ const WRITTEN: [(&str, Mesh, Mesh, &str); 7] = [
 
 const WIDEST: Mesh = (3, 1, "0 0 0\n1073741824 0 0\n0 1 0\n3 0 1 2\n");
 
-const TWICE: Mesh = (3, 2, "0 0 0\n2 0 0\n2 2 0\n3 0 1 2\n3 0 1 2\n");
+pub(crate) const TWICE: Mesh = (3, 2, "0 0 0\n2 0 0\n2 2 0\n3 0 1 2\n3 0 1 2\n");
 
 // What is written where the words have options.
 const CUT: [(&str, &[&str], Mesh, Mesh, &str); 4] = [
@@ -176,7 +189,7 @@ const CUT: [(&str, &[&str], Mesh, Mesh, &str); 4] = [
     ),
 ];
 
-fn mesh_text(alloc: Global, mesh: Mesh) -> Result<String, Fail> {
+pub(crate) fn mesh_text(alloc: Global, mesh: Mesh) -> Result<String, Fail> {
     let (vertices, faces, lines) = mesh;
     Ok(format!(in alloc;
         "ply\nformat ascii 1.0\ncomment tpz digits 0\nelement vertex {vertices}\nproperty int x\nproperty int y\nproperty int z\nelement face {faces}\nproperty list uchar int vertex_indices\nend_header\n{lines}"
@@ -184,7 +197,7 @@ fn mesh_text(alloc: Global, mesh: Mesh) -> Result<String, Fail> {
 }
 
 // A source of the text of a mesh.
-fn mesh_source(alloc: Global, mesh: Mesh, fails: &[u64]) -> Result<MemSource, Fail> {
+pub(crate) fn mesh_source(alloc: Global, mesh: Mesh, fails: &[u64]) -> Result<MemSource, Fail> {
     let text = mesh_text(alloc, mesh)?;
     source(alloc, text.as_bytes(), fails)
 }
@@ -781,6 +794,14 @@ fn each_status_has_its_code_and_line(rt: HostRuntime) -> Result<(), Fail> {
         ),
         (Status::OutFault, 14, "tpz: output failed"),
         (Status::Memory, 16, "tpz: out of memory"),
+        (Status::ScriptBad { line: 5 }, 6, "tpz: bad script line 5"),
+        (Status::ScriptFault, 7, "tpz: script failed"),
+        (Status::StoreFault, 10, "tpz: store failed"),
+        (
+            Status::NotEmpty { len: 1 },
+            11,
+            "tpz: the store is not empty: 1 bytes",
+        ),
         (Status::TooManyRecords, 22, "tpz: too many records"),
     ];
     for (status, code, line) in rows {

@@ -30,10 +30,48 @@ fn with_cap(cap: u32) -> Job {
     }
 }
 
+fn toured(digits: Option<u8>, cap: u32, budget: u32, tries: u32) -> Job {
+    Job::Tour {
+        digits,
+        cap,
+        budget,
+        tries,
+    }
+}
+
+fn built(digits: Option<u8>, cap: u32, budget: u32) -> Job {
+    Job::Build {
+        digits,
+        cap,
+        budget,
+    }
+}
+
 #[test]
 fn words_in_the_grammar_give_their_job(rt: HostRuntime) -> Result<(), Fail> {
     let alloc = rt.alloc();
-    let rows: [(&[&str], Job); 20] = [
+    let rows: [(&[&str], Job); 28] = [
+        (&["replay"], Job::Replay { tries: 3 }),
+        (&["replay", "--tries=100"], Job::Replay { tries: 100 }),
+        (&["tour"], toured(None, 1024, 32_768, 3)),
+        (
+            &[
+                "tour",
+                "--tries",
+                "1",
+                "--budget=2",
+                "--digits=9",
+                "--cap=4",
+            ],
+            toured(Some(9), 4, 2, 1),
+        ),
+        (&["build"], built(None, 1024, 32_768)),
+        (&["build", "--cap", "1"], built(None, 1, 32_768)),
+        (&["build", "--budget=4194304"], built(None, 1024, 4_194_304)),
+        (
+            &["build", "--budget", "1", "--digits=2", "--cap=3"],
+            built(Some(2), 3, 1),
+        ),
         (&["info"], Job::Info { tries: 3 }),
         (&["info", "--tries", "1"], Job::Info { tries: 1 }),
         (&["info", "--tries=100"], Job::Info { tries: 100 }),
@@ -82,7 +120,19 @@ fn words_in_the_grammar_give_their_job(rt: HostRuntime) -> Result<(), Fail> {
 #[test]
 fn words_outside_the_grammar_are_usage(rt: HostRuntime) -> Result<(), Fail> {
     let alloc = rt.alloc();
-    let rows: [&[&str]; 68] = [
+    let rows: [&[&str]; 80] = [
+        &["replay", "--tries", "0"],
+        &["replay", "--tries=101"],
+        &["replay", "--cap=1"],
+        &["replay", "--cache=1"],
+        &["tour", "--size=1"],
+        &["tour", "--tries=1", "--tries=1"],
+        &["build", "--budget", "0"],
+        &["build", "--budget=4194305"],
+        &["build", "--budget=1", "--budget=1"],
+        &["build", "--cap=16777217"],
+        &["build", "--size=1"],
+        &["build", "--tries=1"],
         &["gen"],
         &["gen", "1"],
         &["gen", "--size"],

@@ -128,6 +128,7 @@ impl Script {
             (λ s. s ≡ record { lines = passed_over (n - self.old.number - 1); bad = Some n }) }
         ensures number { IfOk result (λ found. OnSome found (self.old.number < self.new.number)) }
         ensures stays { OnOk result (self.old.number ≤ self.new.number) }
+        ensures most { self.new.number ≤ 1048576 }
         ensures place { (n : ℕ) → result ≡ Err (Bad n) → self.old.number < n }
         ensures bounds { IfOk result (λ found. IfSome found (λ line. IsTrue (is_in_bounds line))) }
         ensures later { C.faults src.old ≤ C.faults src.new }
@@ -153,6 +154,7 @@ impl Script {
         ensures number { IfOk result (λ found. OnSome found (self.old.number < self.new.number)) }
         ensures place { (n : ℕ) → result ≡ Err (Bad n) → self.old.number < n }
         ensures stays { OnOk result (self.old.number ≤ self.new.number) }
+        ensures most { self.new.number ≤ 1048576 }
         ensures later { C.faults src.old ≤ C.faults src.new }
         ensures input { IsErrOf result ScriptFault.Input → Rose (C.faults src.old) (C.faults src.new) }
     {
@@ -174,6 +176,7 @@ impl Script {
         ensures number { IfOk result (λ found. OnSome found (self.new.number ≡ self.old.number + 1)) }
         ensures end { result ≡ Ok None → ForSome (lines_told (ahead self.old.held (C.left src.old))) (λ texts. texts ≡ []) }
         ensures stays { result ≡ Ok None → self.new.number ≡ self.old.number }
+        ensures most { self.new.number ≤ 1048576 }
         ensures bad { (n : ℕ) → result ≡ Err (Bad n) → ForSome (lines_told (ahead self.old.held (C.left src.old))) (BeginsOutside n) }
         ensures place { (n : ℕ) → result ≡ Err (Bad n) → n ≡ self.old.number + 1 }
         ensures later { C.faults src.old ≤ C.faults src.new }

@@ -1,5 +1,5 @@
 // The triangles of a tetrahedron are divided among its two children.
-ghost use Rattle.std.specs.Prelude.{◌≡◌, ◌≢◌, ◌≤◌, ◌<◌, ◌+◌, ◌*◌, ◌^◌, ◌++◌, ◌∷◌, [], ℕ, List, Some, None, IfOk, IfErr, OnOk, IsTrue};
+ghost use Rattle.std.specs.Prelude.{◌≡◌, ◌≢◌, ◌≤◌, ◌<◌, ◌+◌, ◌*◌, ◌^◌, ◌++◌, ◌∷◌, [], ℕ, List, Some, None, IfOk, IfErr, OnOk, IsTrue, is_some};
 ghost use Rattle.std.specs.Option.{ForSome, option_map};
 ghost use Rattle.tpz_base.specs.Meshes.{is_whole, Mesh};
 ghost use Rattle.tpz_base.specs.Diamonds.{level_of};
@@ -55,6 +55,7 @@ fn send<B: Blob>(
     ensures total { OnOk result (total streams.new ≡ total streams.old + 1) }
     ensures stays { Stays streams.old streams.new (B.held work.new) }
     ensures later { B.faults work.old ≤ B.faults work.new }
+    ensures telling { is_some (B.held work.new) ≡ is_some (B.held work.old) }
 {
     let id = if side(name, &t, l) == 0 {
         halves.first
@@ -94,6 +95,7 @@ fn send_all<B: Blob>(
     ensures total { OnOk result (total streams.new ≡ total streams.old + size_of streams.old id) }
     ensures stays { Stays streams.old streams.new (B.held work.new) }
     ensures later { B.faults work.old ≤ B.faults work.new }
+    ensures telling { is_some (B.held work.new) ≡ is_some (B.held work.old) }
 {
     let mut at = streams.start(id);
     'triangles: while let Some(t) = streams.read(work, &mut at)? {
@@ -134,6 +136,7 @@ pub(crate) fn divide<B: Blob>(
     ensures divides { IfOk result (λ halves. Divides id halves.first halves.second streams.old streams.new (B.held work.old) (B.held work.new)) }
     ensures stays { Stays streams.old streams.new (B.held work.new) }
     ensures later { B.faults work.old ≤ B.faults work.new }
+    ensures telling { is_some (B.held work.new) ≡ is_some (B.held work.old) }
     ensures memory { IfErr result (λ fault. fault ≡ SplitFault.Memory) }
 {
     let halves = make_halves(streams)?;

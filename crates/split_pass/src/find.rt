@@ -1,5 +1,5 @@
 // The crowded tetrahedra are found, from the roots down.
-ghost use Rattle.std.specs.Prelude.{◌≡◌, ◌≢◌, ◌≤◌, ◌<◌, ◌+◌, ◌-◌, ◌*◌, ◌^◌, [], ℕ, List, Err, OnOk, length};
+ghost use Rattle.std.specs.Prelude.{◌≡◌, ◌≢◌, ◌≤◌, ◌<◌, ◌+◌, ◌-◌, ◌*◌, ◌^◌, [], ℕ, List, Err, OnOk, length, is_some};
 ghost use Rattle.std.specs.Option.{ForSome};
 ghost use Rattle.tpz_base.specs.declared.shape.Point.{Point};
 ghost use Rattle.tpz_base.specs.Diamonds.{level_of};
@@ -50,6 +50,7 @@ fn find<B: Blob>(
     ensures l { closing.new.l ≡ l }
     ensures stays { Stays streams.old streams.new (B.held work.new) }
     ensures later { B.faults work.old ≤ B.faults work.new }
+    ensures telling { is_some (B.held work.new) ≡ is_some (B.held work.old) }
 {
     if streams.count(id) <= u64::from(cap) || level(name.centre, l) == 3 * l {
         streams.give_back(work, id)?;
@@ -88,6 +89,7 @@ pub(crate) fn find_all<B: Blob>(
     ensures l { closing.new.l ≡ l }
     ensures stays { Stays streams.old streams.new (B.held work.new) }
     ensures later { B.faults work.old ≤ B.faults work.new }
+    ensures telling { is_some (B.held work.new) ≡ is_some (B.held work.old) }
 {
     let ids = root_streams(streams, work, whole)?;
     'slots: for slot in 0..6 {

@@ -1,5 +1,5 @@
 // The call that splits.
-ghost use Rattle.std.specs.Prelude.{◌≡◌, ◌≤◌, ◌<◌, [], ℕ, List, Some, Err, IfOk, length};
+ghost use Rattle.std.specs.Prelude.{◌≡◌, ◌≤◌, ◌<◌, [], ℕ, List, Some, Err, IfOk, length, is_some};
 ghost use Rattle.std.specs.Option.{ForSome};
 ghost use Rattle.std.specs.FinMap as map;
 ghost use Rattle.tetra_name.specs.declared.shape.Tet.{Tet};
@@ -54,6 +54,7 @@ pub fn split<B: Blob>(
     ensures total { IfOk result (λ split. total streams.new ≡ size_of streams.old whole) }
     ensures stays { Stays streams.old streams.new (B.held work.new) }
     ensures later { B.faults work.old ≤ B.faults work.new }
+    ensures telling { is_some (B.held work.new) ≡ is_some (B.held work.old) }
 {
     let l = closing.l();
     find_all(streams, work, &mut closing, l, whole, cap)?;

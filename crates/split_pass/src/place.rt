@@ -1,5 +1,5 @@
 // Each triangle is put into the stream of its leaf.
-ghost use Rattle.std.specs.Prelude.{◌≡◌, ◌≢◌, ◌≤◌, ◌<◌, ◌+◌, ◌^◌, ◌↔◌, ◌⊎◌, ◌++◌, ◌∷◌, [], ℕ, List, Some, None, IfOk, OnOk, OnErr, IfErr, IsTrue, option_to_list};
+ghost use Rattle.std.specs.Prelude.{◌≡◌, ◌≢◌, ◌≤◌, ◌<◌, ◌+◌, ◌^◌, ◌↔◌, ◌⊎◌, ◌++◌, ◌∷◌, [], ℕ, List, Some, None, IfOk, OnOk, OnErr, IfErr, IsTrue, option_to_list, is_some};
 ghost use Rattle.std.specs.Option.{ForSome, option_map, unwrap_or};
 ghost use Rattle.std.specs.FinMap as map;
 ghost use Rattle.tetra_name.specs.declared.shape.Tet.{Tet};
@@ -42,6 +42,7 @@ fn place<B: Blob>(
         × Places leaf id t leaves.old leaves.new streams.old streams.new (B.held work.old) (B.held work.new)) }
     ensures stays { Stays streams.old streams.new (B.held work.new) }
     ensures later { B.faults work.old ≤ B.faults work.new }
+    ensures telling { is_some (B.held work.new) ≡ is_some (B.held work.old) }
     ensures memory { IfErr result (λ fault. fault ≡ SplitFault.Memory) }
 {
     let leaf = leaf_of(graph, &t);
@@ -71,6 +72,7 @@ pub(crate) fn place_all<B: Blob>(
     ensures total { OnOk result (total streams.new ≡ total streams.old + size_of streams.old whole) }
     ensures stays { Stays streams.old streams.new (B.held work.new) }
     ensures later { B.faults work.old ≤ B.faults work.new }
+    ensures telling { is_some (B.held work.new) ≡ is_some (B.held work.old) }
     ensures memory { IfErr result (λ fault. fault ≡ SplitFault.Memory) }
 {
     let mut at = streams.start(whole);

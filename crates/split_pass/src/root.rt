@@ -1,5 +1,5 @@
 // The triangles of a stream are copied into the streams of the six roots.
-ghost use Rattle.std.specs.Prelude.{◌≡◌, ◌≢◌, ◌≤◌, ◌<◌, ◌+◌, ◌^◌, ◌++◌, ◌∷◌, [], ℕ, List, Some, None, IfOk, IfErr, OnOk, IsTrue, filter, length, slice_get};
+ghost use Rattle.std.specs.Prelude.{◌≡◌, ◌≢◌, ◌≤◌, ◌<◌, ◌+◌, ◌^◌, ◌++◌, ◌∷◌, [], ℕ, List, Some, None, IfOk, IfErr, OnOk, IsTrue, filter, length, slice_get, is_some};
 ghost use Rattle.std.specs.Option.{ForSome, option_map};
 ghost use Rattle.tpz_base.specs.Meshes.{is_whole, Mesh};
 ghost use Rattle.tpz_base.specs.Roots.{is_in_root, root_part};
@@ -45,6 +45,7 @@ fn send<B: Blob>(
     ensures total { OnOk result (total streams.new ≡ total streams.old + 1) }
     ensures stays { Stays streams.old streams.new (B.held work.new) }
     ensures later { B.faults work.old ≤ B.faults work.new }
+    ensures telling { is_some (B.held work.new) ≡ is_some (B.held work.old) }
 {
     let slot = root_of(&t);
     let id = stream_at(ids, slot);
@@ -71,6 +72,7 @@ fn send_all<B: Blob>(
     ensures total { OnOk result (total streams.new ≡ total streams.old + size_of streams.old whole) }
     ensures stays { Stays streams.old streams.new (B.held work.new) }
     ensures later { B.faults work.old ≤ B.faults work.new }
+    ensures telling { is_some (B.held work.new) ≡ is_some (B.held work.old) }
 {
     let mut at = streams.start(whole);
     'triangles: while let Some(t) = streams.read(work, &mut at)? {
@@ -112,6 +114,7 @@ pub(crate) fn root_streams<B: Blob>(
     ensures total { OnOk result (total streams.new ≡ total streams.old + size_of streams.old whole) }
     ensures stays { Stays streams.old streams.new (B.held work.new) }
     ensures later { B.faults work.old ≤ B.faults work.new }
+    ensures telling { is_some (B.held work.new) ≡ is_some (B.held work.old) }
     ensures memory { IfErr result (λ fault. fault ≡ SplitFault.Memory) }
 {
     let ids = make_roots(streams)?;

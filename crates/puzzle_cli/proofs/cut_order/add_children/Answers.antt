@@ -1,9 +1,9 @@
 -- What the first child adds, and then what the second adds.
-use Rattle.std.proofs.Common.{◌≡◌, ◌∷◌, [], ◌∙◌, Some, ap}
+use Rattle.std.proofs.Common.{◌≡◌, ◌∷◌, [], ◌∙◌, ap}
 use Rattle.tpz_base.specs.Tetrahedra.{Tetrahedron, child_0, child_1}
 use Rattle.tetra_name.specs.Names.{child_of, tetrahedron_of}
 use Rattle.diamond_graph.specs.Graphs.{centres}
-use Rattle.puzzle_cli.specs.Numbering.{numbered_mesh}
+use Rattle.cut_export.specs.Numbering.{numbered_mesh}
 use Rattle.split_pass.proofs.Dividing.{at_some}
 use Rattle.puzzle_cli.proofs.LeafOrder.{adds_more, first_child, in_some, on_ok, second_child}
 use Rattle.puzzle_cli.proofs.cut_order.add_children.Goals as goal

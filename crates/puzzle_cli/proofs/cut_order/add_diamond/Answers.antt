@@ -1,13 +1,12 @@
 -- Each member's children add what they have.
-use Rattle.std.proofs.Common.{◌≡◌, ◌+◌, ◌≤◌, ◌∙◌, [], take, refl, sym, subst, arith, List}
-use Rattle.std.specs.Prelude.{flat_map}
+use Rattle.std.proofs.Common.{◌≤◌, sym, subst, arith, List}
 use Rattle.tpz_base.specs.Tetrahedra.{Tetrahedron, children, members}
 use Rattle.tetra_name.specs.Names.{count_of, point_of, IsName}
 use Rattle.diamond_graph.specs.Graphs.{centres}
 use Rattle.puzzle_cli.specs.Leaves.{Adds}
-use Rattle.puzzle_cli.specs.Numbering.{numbered_mesh}
+use Rattle.cut_export.specs.Numbering.{numbered_mesh}
 use Rattle.split_pass.proofs.Dividing.{at_some}
-use Rattle.puzzle_cli.proofs.LeafOrder.{adds_more, adds_none, joined_more, keeps_both, keeps_self, live_still, members_done, named_member}
+use Rattle.puzzle_cli.proofs.LeafOrder.{adds_more, adds_none, joined_more, keeps_both, keeps_self, members_done, named_member}
 use Rattle.puzzle_cli.proofs.cut_order.add_diamond.Goals as goal
 
 pub members-init : goal.members-init

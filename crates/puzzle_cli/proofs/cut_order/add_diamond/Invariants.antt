@@ -1,11 +1,11 @@
 -- What the members so far add has been added.
-use Rattle.std.proofs.Common.{◌≡◌, ◌≤◌}
+use Rattle.std.proofs.Common.{◌≤◌}
 use Rattle.std.specs.Prelude.{take, flat_map}
 use Rattle.tpz_base.specs.Tetrahedra.{children, members}
 use Rattle.diamond_graph.specs.Graphs.{centres}
 use Rattle.tetra_name.specs.Names.{point_of}
 use Rattle.puzzle_cli.specs.Leaves.{Adds, KeepsStreams}
-use Rattle.puzzle_cli.specs.Numbering.{numbered_mesh, IsNumbering}
+use Rattle.cut_export.specs.Numbering.{numbered_mesh, IsNumbering}
 use Rattle.puzzle_cli.proofs.cut_order.add_diamond.Given as goal
 
 abbrev pub invariant-members : goal.invariant-members

@@ -1,13 +1,13 @@
 -- Each diamond that is split adds what its members' children have.
-use Rattle.std.proofs.Common.{◌≡◌, ◌+◌, ◌≤◌, ◌∙◌, [], take, length, sym, ap, subst, arith, List}
-use Rattle.std.specs.Prelude.{flat_map, map}
+use Rattle.std.proofs.Common.{◌≡◌, ◌≤◌, length, sym, ap, subst, arith, List}
+use Rattle.std.specs.Prelude.{flat_map}
 use Rattle.std.proofs.lemmas.List.{length-map, take_all}
 use Rattle.tpz_base.specs.Tetrahedra.{Tetrahedron, parts}
 use Rattle.tetra_name.specs.Names.{point_of}
 use Rattle.diamond_graph.specs.Closed.{CanSplit}
 use Rattle.diamond_graph.specs.Graphs.{centres}
 use Rattle.puzzle_cli.specs.Leaves.{Adds}
-use Rattle.puzzle_cli.specs.Numbering.{numbered_mesh}
+use Rattle.cut_export.specs.Numbering.{numbered_mesh}
 use Rattle.puzzle_cli.proofs.LeafOrder.{adds_more, adds_none, all_at, joined_more, keeps_both, keeps_self}
 use Rattle.puzzle_cli.proofs.cut_order.add_diamonds.Goals as goal
 

@@ -1,10 +1,10 @@
 -- What the diamonds so far add has been added.
-use Rattle.std.proofs.Common.{◌≡◌, ◌≤◌}
+use Rattle.std.proofs.Common.{◌≤◌}
 use Rattle.std.specs.Prelude.{take, flat_map}
 use Rattle.tpz_base.specs.Tetrahedra.{parts}
 use Rattle.diamond_graph.specs.Graphs.{centres}
 use Rattle.puzzle_cli.specs.Leaves.{Adds, KeepsStreams}
-use Rattle.puzzle_cli.specs.Numbering.{numbered_mesh, IsNumbering}
+use Rattle.cut_export.specs.Numbering.{numbered_mesh, IsNumbering}
 use Rattle.puzzle_cli.proofs.cut_order.add_diamonds.Given as goal
 
 abbrev pub invariant-diamonds : goal.invariant-diamonds

@@ -1,13 +1,10 @@
 -- A tetrahedron adds nothing, or its stream's triangles.
-use Rattle.std.proofs.Common.{◌≡◌, ◌∙◌, Some, None, true, false, rules, sym, ap}
-use Rattle.std.specs.FinMap as map
-use Rattle.tpz_base.specs.declared.shape.Point.{Point}
-use Rattle.tpz_base.specs.Tetrahedra.{Tetrahedron, diamond}
+use Rattle.std.proofs.Common.{◌≡◌, ◌∙◌, true, false, rules, sym, ap}
+use Rattle.tpz_base.specs.Tetrahedra.{Tetrahedron}
 use Rattle.tpz_base.specs.Cuts.{has_diamond}
-use Rattle.tetra_name.specs.Names.{point_of, tetrahedron_of}
+use Rattle.tetra_name.specs.Names.{point_of}
 use Rattle.diamond_graph.specs.Graphs.{centres}
 use Rattle.assign.proofs.LeafLaw.{named_diamond}
-use Rattle.puzzle_cli.specs.Numbering.{numbered_mesh}
 use Rattle.puzzle_cli.proofs.LeafOrder.{adds_empty, adds_split, adds_stream, in_some, on_ok}
 use Rattle.puzzle_cli.proofs.cut_order.add_leaf.Goals as goal
 

@@ -1,8 +1,8 @@
 -- Each root adds what it has.
-use Rattle.std.proofs.Common.{◌≡◌, ◌∙◌, arith, ap}
+use Rattle.std.proofs.Common.{◌≡◌, arith}
 use Rattle.tetra_name.specs.Names.{tetrahedron_of, root_at}
 use Rattle.diamond_graph.specs.Graphs.{centres}
-use Rattle.puzzle_cli.specs.Numbering.{numbered_mesh}
+use Rattle.cut_export.specs.Numbering.{numbered_mesh}
 use Rattle.puzzle_cli.proofs.LeafOrder.{adds_none, keeps_both, keeps_self, roots_done, roots_more}
 use Rattle.puzzle_cli.proofs.cut_order.add_roots.Goals as goal
 

@@ -1,10 +1,10 @@
 -- What the roots so far add has been added.
-use Rattle.std.proofs.Common.{◌≡◌, ◌≤◌}
+use Rattle.std.proofs.Common.{◌≤◌}
 use Rattle.std.specs.Prelude.{take}
 use Rattle.tpz_base.specs.Tetrahedra.{roots}
 use Rattle.diamond_graph.specs.Graphs.{centres}
 use Rattle.puzzle_cli.specs.Leaves.{Adds, KeepsStreams}
-use Rattle.puzzle_cli.specs.Numbering.{numbered_mesh, IsNumbering}
+use Rattle.cut_export.specs.Numbering.{numbered_mesh, IsNumbering}
 use Rattle.puzzle_cli.proofs.cut_order.add_roots.Given as goal
 
 abbrev pub invariant-roots : goal.invariant-roots

@@ -4,7 +4,7 @@ use Rattle.std.proofs.lemmas.Grind.{common_steps}
 use Rattle.std.specs.Prelude.{slice_get, take}
 use Rattle.tpz_base.specs.Meshes.{Mesh}
 use Rattle.tri_stream.specs.Streams.{told_list}
-use Rattle.puzzle_cli.specs.Numbering.{numbered_mesh}
+use Rattle.cut_export.specs.Numbering.{numbered_mesh}
 use Rattle.puzzle_cli.proofs.LeafOrder.{one_taken}
 use Rattle.tri_stream.proofs.Changes.{all_taken}
 use Rattle.puzzle_cli.proofs.cut_order.add_stream.Goals as goal

@@ -4,7 +4,7 @@ use Rattle.std.specs.Prelude.{take}
 use Rattle.std.specs.Option.{ForSome, unwrap_or}
 use Rattle.tri_stream.specs.Streams.{count_of, told_list, Follows}
 use Rattle.puzzle_cli.specs.Leaves.{KeepsStreams}
-use Rattle.puzzle_cli.specs.Numbering.{numbered_mesh, IsNumbering}
+use Rattle.cut_export.specs.Numbering.{numbered_mesh, IsNumbering}
 use Rattle.puzzle_cli.proofs.cut_order.add_stream.Given as goal
 
 abbrev pub invariant-triangles : goal.invariant-triangles

@@ -1,11 +1,11 @@
 -- The roots, and then the parts of the diamonds that are split: the active tetrahedra of the finest cut.
-use Rattle.std.proofs.Common.{◌≡◌, [], subst, sym}
+use Rattle.std.proofs.Common.{subst}
 use Rattle.std.specs.Prelude.{◌++◌, flat_map}
 use Rattle.tpz_base.specs.Meshes.{Mesh}
 use Rattle.tpz_base.specs.Tetrahedra.{parts, roots}
 use Rattle.diamond_graph.specs.Graphs.{centres}
 use Rattle.puzzle_cli.specs.Leaves.{Adds}
-use Rattle.puzzle_cli.specs.Numbering.{numbered_mesh}
+use Rattle.cut_export.specs.Numbering.{numbered_mesh}
 use Rattle.puzzle_cli.proofs.LeafOrder.{adds_more, cut_added}
 use Rattle.puzzle_cli.proofs.cut_order.number_leaves.Goals as goal
 

@@ -1,14 +1,13 @@
-use Rattle.std.proofs.Common.{◌≡◌, ◌∙◌, subst}
-use Rattle.tpz_io.specs.Writes.{Wrote, WrotePrefix}
-use Rattle.puzzle_cli.proofs.Exports.{finest_items_are, none_yet}
+use Rattle.std.proofs.Common.{◌∙◌}
+use Rattle.puzzle_cli.proofs.Exports.{finest_items_are}
 use Rattle.puzzle_cli.proofs.finest.export.Goals as goal
 
 pub returns-clause-ok : goal.returns-clause-ok
 returns-clause-ok g c =
     rw (finest_items_are c.args.facts c.args.mesh.now c.as_bytes.result.now c.as_slice-vertices.result.now c.requires.numbering (c.as_bytes.ensures.value ∙ c.in_ok-line.ensures) c.as_slice-vertices.ensures.keys)
-    at c.write_mesh.ensures.ok
+    at c.write_part_and_note.ensures.ok
 
 pub returns-clause-front : goal.returns-clause-front
 returns-clause-front g c =
     rw (finest_items_are c.args.facts c.args.mesh.now c.as_bytes.result.now c.as_slice-vertices.result.now c.requires.numbering (c.as_bytes.ensures.value ∙ c.in_ok-line.ensures) c.as_slice-vertices.ensures.keys)
-    at c.write_mesh.ensures.front
+    at c.write_part_and_note.ensures.front

@@ -1,6 +1,6 @@
 use Rattle.std.proofs.Common.{◌≡◌, take}
 use Rattle.mesh_gen.specs.Generator.{generated}
-use Rattle.puzzle_cli.specs.Numbering.{numbered_mesh, IsNumbering}
+use Rattle.cut_export.specs.Numbering.{numbered_mesh, IsNumbering}
 use Rattle.puzzle_cli.proofs.generate.number_generated.Given as goal
 
 abbrev pub invariant-tris : goal.invariant-tris

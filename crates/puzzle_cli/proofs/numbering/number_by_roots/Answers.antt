@@ -1,7 +1,7 @@
 use Rattle.std.proofs.Common.{◌∙◌, ◌++◌, ap}
 use Rattle.tpz_base.specs.Meshes.{Mesh}
 use Rattle.tpz_base.specs.Roots.{root_part}
-use Rattle.puzzle_cli.specs.Numbering.{numbered_mesh}
+use Rattle.cut_export.specs.Numbering.{numbered_mesh}
 use Rattle.puzzle_cli.proofs.RootLoops.{roots_here, later_parts, all_roots}
 use Rattle.puzzle_cli.proofs.numbering.number_by_roots.Goals as goal
 

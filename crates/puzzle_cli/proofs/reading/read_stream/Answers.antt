@@ -2,7 +2,7 @@ use Rattle.std.proofs.Common.{◌≡◌, ◌+◌, ◌*◌, ◌≤◌, length, re
 use Rattle.tpz_base.specs.Cubes.{low_of}
 use Rattle.ply_body.proofs.CubeRows.{frame_spots}
 use Rattle.puzzle_cli.specs.Statuses.{IsRefused}
-use Rattle.puzzle_cli.proofs.Filling.{source_of}
+use Rattle.puzzle_cli.proofs.Filling.{source_held, source_of}
 use Rattle.puzzle_cli.proofs.ReadLemmas.{same_status, accepted_by, all_read, refused_by, low_small, some_same, told_later, untold_before}
 use Rattle.puzzle_cli.proofs.reading.read_stream.Goals as goal
 
@@ -44,7 +44,7 @@ returns-clause-stream g c = λ bytes told held keeps rows faces means.
     c.new-streams.ensures.none (c.make.ensures.l ∙ c.new-streams.ensures.l) c.in_ok-whole.ensures.count c.in_ok-whole.ensures.list c.in_ok-whole.ensures.others
     c.new-streams.ensures.stands t.2 in
     record {
-      l = source.level ∙ read.l;
+      l = read.l;
       digits = read.scaled;
       low = read.low;
       list = source.list last ends ∙ ap Some read.whole;
@@ -66,11 +66,14 @@ returns-clause-small g c =
     let few = t.3 in
     let lost = c.dropped.ensures in
     record {
-      level = (omega (arith, level.0, source.level), omega (arith, level.1, source.level));
+      level = level;
+      l = source.level;
       low = low_small frame.low c.in-Ok.ensures.small.low;
       count = c.count.ensures.value;
       total = omega (arith, more, none, tris);
       only = source.only;
       stands = source.stands;
       few = omega (arith, few, tris, lost);
+      digits = c.in-Ok.ensures.digits;
+      held = source_held frame.l t.0 c.stream_tris.new.streams c.in_ok-whole.whole _ source.list t.4;
     }

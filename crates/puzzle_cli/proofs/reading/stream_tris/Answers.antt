@@ -1,6 +1,8 @@
 use Rattle.std.proofs.Common.{◌≡◌, ℕ, ◌+◌, take, length, refl, sym, ◌∙◌, ap, subst, arith, [], ◌∷◌, ◌++◌, Ok, Err}
 use Rattle.std.specs.Option.{ForSome}
 use Rattle.std.proofs.lemmas.List.{length_push}
+use Rattle.std.proofs.lemmas.List.Elements.{All-nil, All-push}
+use Rattle.tri_stream.specs.Lists.{IsHeld}
 use Rattle.tpz_base.specs.Cubes.{IsTriInCube}
 use Rattle.tpz_io.specs.Told.{Changes}
 use Rattle.tri_stream.specs.Streams.{Stands}
@@ -25,6 +27,7 @@ tris-init g c = record {
     none_whole _ _ _ _ refl c.requires.fresh.2,
     sym c.requires.fresh.1,
     fills_none c.args.whole c.args.streams.now _ c.requires.stands,
+    All-nil (IsHeld c.args.frame.now.l),
   );
   input_later = omega arith;
   work_later = omega arith;
@@ -52,6 +55,7 @@ returns-in_default-clause-tris g c =
       },
       subst (λ h. Fills c.args.whole read.1 c.args.streams.now c.tris.streams (g.W.Blob.held c.args.work.now) h) (sym c.next_tri.ensures.held) read.5,
       omega arith,
+      read.6,
     )
 
 pub append-requires-clause-live : goal.append-requires-clause-live
@@ -96,6 +100,8 @@ tris-preserved g c =
         length_push read.1 t ∙ ap (λ (n : ℕ). n + 1) read.4 ∙ sym given.2.given,
         fills_one c.args.whole read.1 t c.args.streams.now c.tris.streams _ _ _ _ so_far c.in_ok-append.ensures.count c.in_ok-append.ensures.list
             c.in_ok-append.ensures.others c.in_ok-append.ensures.total c.append.ensures.kept,
+        All-push (IsHeld c.args.frame.now.l) read.1 t read.6
+            (record { whole = c.in-Ok.ensures.whole t (ap Ok c.in-Some.is); cube = c.in-Ok.ensures.cube t (ap Ok c.in-Some.is) }),
       );
       input_later = omega (arith, inv.input_later, c.next_tri.ensures.later.0);
       work_later = omega (arith, inv.work_later, c.next_tri.ensures.later.1, c.append.ensures.later);

@@ -1,9 +1,10 @@
 use Rattle.std.proofs.Common.{◌≡◌, ◌≤◌, List, ◌+◌, ◌-◌, None, Some, take}
 use Rattle.std.specs.Option.{ForSome, option_map}
-use Rattle.std.specs.Prelude.{length}
+use Rattle.std.specs.Prelude.{length, All}
 use Rattle.tpz_base.specs.Meshes.{Mesh}
 use Rattle.tpz_base.specs.Texts.{Face}
 use Rattle.tpz_io.specs.Told.{Changes}
+use Rattle.tri_stream.specs.Lists.{IsHeld}
 use Rattle.ply_body.specs.Spots.{HoldsPoints}
 use Rattle.ply_body.specs.Readings.{coming_told, with_faces}
 use Rattle.puzzle_cli.specs.Leaves.{Fills}
@@ -21,7 +22,7 @@ invariant-tris g l = record {
   read : (faces : List Face) × (tris : Mesh)
       × (coming_told l.fn.faces (g.I.Source.left l.fn.input) ≡ option_map (with_faces faces) (coming_told l.faces (g.I.Source.left l.input)))
       × AreWhole l.frame (g.W.Blob.held l.fn.work) faces tris l.faces.dropped × (length tris ≡ l.faces.given)
-      × Fills l.whole tris l.fn.streams l.streams (g.W.Blob.held l.fn.work) (g.W.Blob.held l.work);
+      × Fills l.whole tris l.fn.streams l.streams (g.W.Blob.held l.fn.work) (g.W.Blob.held l.work) × All (IsHeld l.frame.l) tris;
   input_later : g.I.Source.faults l.fn.input ≤ g.I.Source.faults l.input;
   work_later : g.W.Blob.faults l.fn.work ≤ g.W.Blob.faults l.work;
 }

@@ -1,6 +1,6 @@
 -- The triangles that were read have gone to their children.
 use Rattle.std.proofs.Common.{◌≡◌, ◌≤◌, ◌+◌, ◌-◌, ◌++◌}
-use Rattle.std.specs.Prelude.{take}
+use Rattle.std.specs.Prelude.{is_some, take}
 use Rattle.std.specs.Option.{ForSome, option_map}
 use Rattle.tetra_name.specs.Names.{tetrahedron_of}
 use Rattle.tri_stream.specs.Streams.{told_list, total, IsLive, Follows, size_of, Stays}
@@ -29,6 +29,7 @@ invariant-triangles g l =
       total : total l.streams ≡ total l.fn.streams + l.at.given;
       stays : Stays l.fn.streams l.streams (held l.work);
       later : g.B.Blob.faults l.fn.work ≤ g.B.Blob.faults l.work;
+      telling : is_some (held l.work) ≡ is_some (held l.fn.work);
     }
 
 abbrev pub decreases-triangles : goal.decreases-triangles

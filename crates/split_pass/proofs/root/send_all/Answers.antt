@@ -40,6 +40,7 @@ triangles-preserved g c =
         stands = send.stays.stands;
       };
       later = let a = c.send.ensures.later in let b = read.later in let d = inv.later in omega arith;
+      telling = c.send.ensures.telling ∙ read.kept.front.same_telling ∙ inv.telling;
     }
 
 pub returns-clause-lists : goal.returns-clause-lists

@@ -1,6 +1,6 @@
 -- The triangles that were read have gone to the streams of their roots.
 use Rattle.std.proofs.Common.{◌≡◌, ◌≤◌, ◌+◌, ◌-◌, ◌++◌, ℕ, Some}
-use Rattle.std.specs.Prelude.{filter, slice_get, take}
+use Rattle.std.specs.Prelude.{filter, is_some, slice_get, take}
 use Rattle.std.specs.Option.{ForSome, option_map}
 use Rattle.tpz_base.specs.Roots.{is_in_root}
 use Rattle.tri_stream.specs.declared.names.StreamId.{StreamId}
@@ -24,6 +24,7 @@ invariant-triangles g l =
       total : total l.streams ≡ total l.fn.streams + l.at.given;
       stays : Stays l.fn.streams l.streams (held l.work);
       later : g.B.Blob.faults l.fn.work ≤ g.B.Blob.faults l.work;
+      telling : is_some (held l.work) ≡ is_some (held l.fn.work);
     }
 
 abbrev pub decreases-triangles : goal.decreases-triangles

@@ -1,0 +1,133 @@
+-- From a stream that was split and built to the store of an input, and from a line to a note.
+use Rattle.std.proofs.Common.{◌≡◌, ℕ, List, [], ◌∷◌, ◌++◌, length, refl, sym, ◌∙◌, ap, ap₂, subst}
+use Rattle.std.specs.Prelude.{◌≤◌, ℤ, unsigned_abs, All, Option, Some, None, Result, Ok, Err, pos}
+use Rattle.std.specs.List.{slice_index_or}
+use Rattle.tpz_base.specs.declared.shape.Point.{Point}
+use Rattle.tpz_base.specs.Meshes.{Mesh}
+use Rattle.tpz_base.specs.Cubes.{Row, level_bound}
+use Rattle.tpz_base.specs.Texts.{Bytes, Face}
+use Rattle.tpz_io.specs.Told.{followed_by}
+use Rattle.tpz_io.specs.Writes.{Note, Wrote}
+use Rattle.std.proofs.lemmas.List.{append-nil}
+use Rattle.ply_body.specs.Inputs.{mesh_of, dropped_of}
+use Rattle.tri_stream.specs.declared.names.StreamId.{StreamId}
+use Rattle.tri_stream.specs.Streams.{told_list, StreamsState}
+use Rattle.assign.specs.Names.{LeafTable}
+use Rattle.assign.specs.Splits.{split_set}
+use Rattle.assign.specs.Standing.{HoldsPatches}
+use Rattle.build_pass.specs.declared.pass.Built.{Built}
+use Rattle.build_pass.specs.Building.{greatest_fine, IsBuildable}
+use Rattle.build_pass.proofs.Coarsening.{held_right}
+use Rattle.tpz_base.proofs.Elements.{all_from}
+use Rattle.patch_file.specs.Blocks.{is_right_tri}
+use Rattle.tri_stream.specs.Lists.{IsHeld}
+use Rattle.diamond_graph.specs.Adding.{most_centres}
+use Rattle.puzzle_cli.specs.declared.building.Summary.{Summary}
+use Rattle.puzzle_cli.specs.declared.reading.InputStream.{InputStream}
+use Rattle.puzzle_cli.specs.declared.status.Status.{Status}
+use Rattle.puzzle_cli.specs.declared.status.Status.TheVariants as status
+use Rattle.puzzle_cli.specs.Build.{built_of, params_of, stream_params, summary_of}
+use Rattle.puzzle_cli.specs.Readings.{IsSmallStream, IsStreamOf}
+use Rattle.puzzle_cli.specs.Statuses.{IsUnbuilt, IsUnread}
+use Rattle.cut_export.proofs.Pieces.{followed_by-nil}
+
+-- a list that is told has bytes that are told
+pub told_bytes : (s : StreamsState) (told : Option Bytes) (id : StreamId) (M : Mesh) → told_list s told id ≡ Some M → (b : Bytes) × (told ≡ Some b)
+told_bytes s None id M is = absurd cc
+told_bytes s (Some b) id M is = (b, refl)
+
+-- the split of a stream in the cube that its store tells
+pub split_at : (L level cap : ℕ) (C : List Point) (M : Mesh) (leaves : LeafTable) (s : StreamsState) (told : Option Bytes) → level ≡ L → C ≡ split_set level cap M → HoldsPatches level (split_set level cap M) M leaves s told
+    → (C ≡ split_set L cap M) × HoldsPatches L C M leaves s told
+split_at L level cap C M leaves s told same is holds = (
+  is ∙ ap (λ (n : ℕ). split_set n cap M) same,
+  subst (λ (n : ℕ). HoldsPatches n C M leaves s told) same (subst (λ (F : List Point). HoldsPatches level F M leaves s told) (sym is) holds),
+)
+
+abbrev built_with : ℕ → ℕ → Built
+built_with records peak = record { records = records; peak = peak }
+
+pub built_is : (b : Built) (L cap budget : ℕ) (C : List Point) (M : Mesh) → b.records ≡ length C → C ≡ split_set L cap M
+    → b.peak ≡ greatest_fine L budget (split_set L cap M) M (split_set L cap M) → b ≡ built_of L cap budget M
+built_is b L cap budget C M records is peak = ap₂ built_with (records ∙ ap length is) peak
+
+-- a stream that was read is one that every law of builds speaks of
+pub stream_buildable : (cap budget : ℕ) (read : InputStream) (now : Option Bytes) (M : Mesh) (x y z : ℤ) → IsSmallStream now read → All (IsHeld read.l) M → read.tris ≡ length M → read.low ≡ x ∷ y ∷ z ∷ []
+    → 1 ≤ cap → cap ≤ 16777216 → 1 ≤ budget → budget ≤ 4194304 → length (split_set read.l cap M) ≤ most_centres → IsBuildable M (stream_params cap budget read)
+stream_buildable cap budget read now M x y z small held count three some_cap most_cap some most few =
+    let level = small.level in
+    let all = small.few in
+    record {
+      some_levels = level.0;
+      few_levels = level.1;
+      digits = small.digits;
+      low_x = x;
+      low_y = y;
+      low_z = z;
+      low = three;
+      low_x_fits = subst (λ zs. unsigned_abs (slice_index_or zs 0 (pos 0)) ≤ 2147483647) three small.low.x;
+      low_y_fits = subst (λ zs. unsigned_abs (slice_index_or zs 1 (pos 0)) ≤ 2147483647) three small.low.y;
+      low_z_fits = subst (λ zs. unsigned_abs (slice_index_or zs 2 (pos 0)) ≤ 2147483647) three small.low.z;
+      tris = count;
+      all_tris = all;
+      some_cap = some_cap;
+      cap = most_cap;
+      some_budget = some;
+      budget = most;
+      triangles = all_from (is_right_tri read.l None) M (held_right read.l M held);
+      few_records = few;
+    }
+
+-- what a store says of a stream is what it says of the input
+pub params_same : (cap budget scale : ℕ) (read : InputStream) (now : Option Bytes) (rows : List Row) (faces : List Face) → IsStreamOf read now scale rows faces
+    → stream_params cap budget read ≡ params_of cap budget scale rows faces
+params_same cap budget scale read now rows faces is =
+    let l = is.l in
+    let digits = is.digits in
+    let low = is.low in
+    let tris = is.tris in
+    let dropped = is.dropped in
+    cc
+
+abbrev pub summary_with : ℕ → ℕ → Built → Summary
+summary_with tris dropped built = record { tris = tris; dropped = dropped; built = built }
+
+pub summary_same : (cap budget scale : ℕ) (read : InputStream) (now : Option Bytes) (rows : List Row) (faces : List Face) (b : Built) → IsStreamOf read now scale rows faces
+    → b ≡ built_of read.l cap budget (mesh_of rows faces) → summary_with read.tris read.dropped b ≡ summary_of cap budget rows faces
+summary_same cap budget scale read now rows faces b is built =
+    ap (λ (n : ℕ). summary_with n read.dropped b) is.tris
+    ∙ ap (λ (n : ℕ). summary_with (length (mesh_of rows faces)) n b) is.dropped
+    ∙ ap (λ (x : Built). summary_with (length (mesh_of rows faces)) (dropped_of rows faces) x) (built ∙ ap (λ (n : ℕ). built_of n cap budget (mesh_of rows faces)) is.l)
+
+-- reading an input doesn't end so
+pub unread_never : {X : Type 0} {P : Type 0} (s t : Status) → IsUnread s → ◌≡◌ {A = Result X Status} (Err s) (Err t) → (IsUnread t → ⊥) → P
+unread_never s t unread is never = absurd (let same : s ≡ t = cc in never (subst (λ x. IsUnread x) same unread))
+
+pub err_is : {X : Type 0} (s t : Status) → ◌≡◌ {A = Result X Status} (Err s) (Err t) → s ≡ t
+err_is s t is = cc
+
+-- what ends a reading may end a build
+pub unread_unbuilt : (s : Status) → IsUnread s → IsUnbuilt s
+unread_unbuilt status.Ok h = absurd h
+unread_unbuilt status.Usage h = absurd h
+unread_unbuilt (status.BadInput kind place) h = tt
+unread_unbuilt (status.Extent axis least greatest) h = tt
+unread_unbuilt status.InputFault h = tt
+unread_unbuilt status.WorkFault h = tt
+unread_unbuilt (status.WorkDamage offset) h = tt
+unread_unbuilt status.StoreFault h = absurd h
+unread_unbuilt (status.NotEmpty len) h = absurd h
+unread_unbuilt status.TooManyRecords h = absurd h
+unread_unbuilt (status.ScriptBad line) h = absurd h
+unread_unbuilt status.ScriptFault h = absurd h
+unread_unbuilt (status.BadStore why) h = absurd h
+unread_unbuilt (status.ReadFault at) h = absurd h
+unread_unbuilt status.OutFault h = absurd h
+unread_unbuilt status.Memory h = tt
+
+-- a line that was written as a note
+pub one_note : (line text : Bytes) (p0 p1 : Option (List Bytes)) (n0 n1 : Option Bytes) → line ≡ text → p1 ≡ p0 → n1 ≡ followed_by n0 (line ++ 10 ∷ []) → Wrote (Note text ∷ []) p0 p1 n0 n1
+one_note line text p0 p1 n0 n1 says parts notes = record {
+  parts = parts ∙ sym (followed_by-nil p0);
+  notes = notes ∙ ap (followed_by n0) (ap (λ (l : Bytes). l ++ 10 ∷ []) says ∙ sym (append-nil _));
+}

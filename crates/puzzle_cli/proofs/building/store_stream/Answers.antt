@@ -1,0 +1,57 @@
+-- The split of the stream is built.
+use Rattle.std.proofs.Common.{◌≡◌, ◌≤◌, ◌⊎◌, length, subst, inl, inr}
+use Rattle.std.specs.Option.{ForSome}
+use Rattle.tpz_base.specs.Meshes.{Mesh}
+use Rattle.diamond_graph.specs.Adding.{most_centres}
+use Rattle.diamond_graph.specs.Graphs.{centres}
+use Rattle.assign.specs.Splits.{split_set}
+use Rattle.assign.specs.Standing.{HoldsPatches}
+use Rattle.patch_file.specs.declared.shape.Params.{Params}
+use Rattle.patch_file.specs.Written.{ReadsUnfinished}
+use Rattle.build_pass.specs.Building.{greatest_fine, store_of}
+use Rattle.puzzle_cli.proofs.ReadLemmas.{told_later}
+use Rattle.puzzle_cli.proofs.BuildSteps.{built_is, split_at, stream_buildable, told_bytes}
+use Rattle.puzzle_cli.proofs.building.store_stream.Goals as goal
+
+pub returns-in-Ok-build-clause-built : goal.returns-in-Ok-build-clause-built
+returns-in-Ok-build-clause-built g c = λ M told.
+    let held = told_bytes _ _ _ M told in
+    let (later, kept) = told_later _ _ held.0 c.split.ensures.telling held.1 in
+    let C = centres c.in-Ok.made.graph in
+    let now = g.W.Blob.held c.split.new.work in
+    let q = split_at c.args.read.l _ c.args.cap C M _ _ now c.requires.small.l (c.in-Ok.ensures.graph M told) (c.in-Ok.ensures.patches M told) in
+    built_is c.in-Ok-build.built c.args.read.l c.args.cap c.args.budget C M c.in-Ok-build.ensures.records q.0
+    (subst (λ (p : Params). (N : Mesh) → C ≡ split_set p.l p.cap N → HoldsPatches p.l C N c.in-Ok.made.leaves c.split.new.streams now
+    → c.in-Ok-build.built.peak ≡ greatest_fine p.l p.budget (split_set p.l p.cap N) N (split_set p.l p.cap N)) c.params_of-params.ensures (c.in-Ok-build.ensures.peak later kept) M q.0 q.1)
+
+pub returns-in-Ok-build-clause-whole : goal.returns-in-Ok-build-clause-whole
+returns-in-Ok-build-clause-whole g c = λ M told.
+    let held = told_bytes _ _ _ M told in
+    let (later, kept) = told_later _ _ held.0 c.split.ensures.telling held.1 in
+    let C = centres c.in-Ok.made.graph in
+    let now = g.W.Blob.held c.split.new.work in
+    let q = split_at c.args.read.l _ c.args.cap C M _ _ now c.requires.small.l (c.in-Ok.ensures.graph M told) (c.in-Ok.ensures.patches M told) in
+    subst (λ (p : Params). (N : Mesh) → C ≡ split_set p.l p.cap N → HoldsPatches p.l C N c.in-Ok.made.leaves c.split.new.streams now
+    → ForSome (g.S.Blob.held c.build.new.store) (λ store. store ≡ store_of N p)) c.params_of-params.ensures (c.in-Ok-build.ensures.whole later kept) M q.0 q.1
+
+pub returns-in-Ok-build-clause-buildable : goal.returns-in-Ok-build-clause-buildable
+returns-in-Ok-build-clause-buildable g c = λ M told count x y z three.
+    let small = c.requires.small in
+    let few = subst (λ n. length (split_set n c.args.cap M) ≤ most_centres) small.l (c.in-Ok.ensures.few M told) in
+    stream_buildable c.args.cap c.args.budget c.args.read _ M x y z small (small.held M told) count three c.requires.some_cap c.requires.most_cap c.requires.some c.requires.most few
+
+pub returns-in-Ok-build-clause-left : goal.returns-in-Ok-build-clause-left
+returns-in-Ok-build-clause-left g c = inr (λ store at. let some = c.in-Ok-build.ensures.some store at in inr (some.0, c.params_of-params.result, some.1))
+
+pub returns-clause-refused : goal.returns-clause-refused
+returns-clause-refused g c = λ M told.
+    let held = told_bytes _ _ _ M told in
+    let (later, kept) = told_later _ _ held.0 c.split.ensures.telling held.1 in
+    let C = centres c.in-Ok.made.graph in
+    let now = g.W.Blob.held c.split.new.work in
+    let q = split_at c.args.read.l _ c.args.cap C M _ _ now c.requires.small.l (c.in-Ok.ensures.graph M told) (c.in-Ok.ensures.patches M told) in
+    inr (subst (λ (p : Params). (N : Mesh) → C ≡ split_set p.l p.cap N → HoldsPatches p.l C N c.in-Ok.made.leaves c.split.new.streams now
+    → ForSome (g.S.Blob.held c.build.new.store) (λ store. ReadsUnfinished store ⊎ (store ≡ store_of N p))) c.params_of-params.ensures (c.in-Err-build.ensures.refused later kept) M q.0 q.1)
+
+pub returns-clause-left : goal.returns-clause-left
+returns-clause-left g c = inr (λ store at. elim (c.in-Err-build.ensures.left store at) [ inl shut ↦ inl shut | inr some ↦ inr (some.0, c.params_of-params.result, some.1) ])

@@ -1,5 +1,0 @@
-use Rattle.puzzle_cli.proofs.PartLines.{head_pieces}
-use Rattle.puzzle_cli.proofs.part_text.push_head.Goals as goal
-
-pub returns : goal.returns
-returns c = cc (head_pieces c.args.buffer.now c.args.digits c.args.vertices c.args.faces)
