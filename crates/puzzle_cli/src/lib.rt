@@ -13,8 +13,6 @@ ghost use Rattle.puzzle_cli.specs.Info.{AsksInfo};
 ghost use Rattle.puzzle_cli.specs.Replay.{AsksReplay, AsksTour};
 ghost use Rattle.puzzle_cli.specs.Runs.{FinestRun, BuildRun, GenRun, InfoRun, ReplayRun, TourRun};
 
-#[cfg(test)]
-mod build_tests;
 mod building;
 mod cut_blocks;
 mod cut_order;
@@ -22,25 +20,15 @@ mod export;
 mod finest;
 mod generate;
 mod info;
-#[cfg(test)]
-mod info_tests;
 mod jobs;
 mod law;
 mod numbering;
 mod options;
 mod reading;
-#[cfg(test)]
-mod replay_tests;
 mod replaying;
 mod splitting;
 mod status;
-#[cfg(test)]
-mod tests;
 mod touring;
-#[cfg(test)]
-mod words_tests;
-#[cfg(test)]
-mod worked_stores;
 
 use building::Plan;
 pub use jobs::{Job, WordsFault, read_words};
