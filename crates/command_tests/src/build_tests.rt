@@ -85,20 +85,20 @@ fn a_build_is_told_by_its_store(rt: HostRuntime) -> Result<(), Fail> {
 }
 
 const STORES_IN_THE_WAY: &str = "\
-case a store of four bytes
+case a store of one byte
 mesh 5 4/0 0 0/4 0 0/4 4 0/0 4 0/2 2 0/3 0 1 4/3 1 2 4/3 2 3 4/3 3 0 4/
 input_fails 1
 script_fails 1
 work_fails 1
 out_fails 1
-store 84
+byte 0 84
 run build
-line tpz: the store is not empty: 4 bytes
+line tpz: the store is not empty: 1 bytes
 unused input
 unused script
 unused work
 unused out
-left 84";
+left_bytes 1";
 
 #[test]
 fn a_store_that_is_not_empty_is_refused_before_the_input_is_read(

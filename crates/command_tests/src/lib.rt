@@ -26,6 +26,7 @@
 //! | `notes TEXT` | these are all notes |
 //! | `parts N` | there are so many finished parts |
 //! | `part PLACE TEXT`, `mesh_part PLACE VERTICES FACES/LINES` | this part has these bytes, those of this mesh |
+//! | `faces PLACE N` | the header of this part says so many faces |
 //! | `closed PLACE` | this part has each directed edge as often as the edge back |
 //! | `left NUMBERS`, `left_bytes N` | the store has these bytes, so many bytes |
 //! | `unused DEVICE` | the first call of this device, which is said to fail, is still to come |
@@ -33,6 +34,8 @@
 
 #[cfg(test)]
 mod build_tests;
+#[cfg(test)]
+mod case_tests;
 mod cases;
 mod closed;
 mod devices;

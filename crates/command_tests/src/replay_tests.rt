@@ -127,7 +127,8 @@ run tour --cap 1 --budget 3
 line
 parts 1
 mesh_part 0 5 4/0 0 0/4 0 0/2 2 0/4 4 0/0 4 0/3 0 1 2/3 1 3 2/3 4 0 2/3 3 4 2/
-notes build tris 4 dropped 0 records 2 peak 0 budget 3/replay parts 1 reads 4 tests 0/";
+notes build tris 4 dropped 0 records 2 peak 0 budget 3/replay parts 1 reads 4 tests 0/
+left_bytes 736";
 
 #[test]
 fn a_tour_writes_what_its_budget_has_simplified(rt: HostRuntime) -> Result<(), Fail> {
@@ -146,6 +147,7 @@ again
 run tour --cap 16 --budget 64
 line
 parts 2
+faces 0 192
 closed 0
 closed 1
 notes build tris 192 dropped 0 records 7 peak 57 budget 64/replay parts 2 reads 11 tests 14/";

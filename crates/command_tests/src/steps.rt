@@ -131,7 +131,7 @@ pub fn expect(
         "line" => same(alloc, ran.line.as_bytes(), rest.as_bytes()),
         "notes" => same(alloc, ran.out.notes(), &lines_of(alloc, rest)?),
         "parts" => same_number(alloc, ran.out.part_count() as u64, rest),
-        "part" | "mesh_part" | "closed" => expect_part(alloc, step, rest, ran),
+        "part" | "mesh_part" | "faces" | "closed" => expect_part(alloc, step, rest, ran),
         "left" => match bytes_of(alloc, rest)? {
             Some(bytes) => same(alloc, ran.store.bytes(), &bytes),
             None => Ok(Expected::NoStep),
@@ -155,18 +155,23 @@ fn expect_part(
     let Some(part) = ran.part(place) else {
         return Ok(Expected::Other(String::from_str(alloc, "no such part")?));
     };
-    if step == "closed" {
-        return same_answer(alloc, is_closed(alloc, str::from_utf8(part).unwrap_or(""))?);
+    match step {
+        "closed" => same_answer(alloc, is_closed(alloc, text_of(part))?),
+        "faces" => {
+            let line = format!(in alloc; "\nelement face {text}\n")?;
+            same_answer(alloc, text_of(part).contains(line.as_str()))
+        }
+        "part" => same(alloc, part, &lines_of(alloc, text)?),
+        _ => match mesh_of(alloc, text)? {
+            Some(wanted) => same(alloc, part, &wanted),
+            None => Ok(Expected::NoStep),
+        },
     }
-    let wanted = if step == "part" {
-        Some(lines_of(alloc, text)?)
-    } else {
-        mesh_of(alloc, text)?
-    };
-    match wanted {
-        Some(wanted) => same(alloc, part, &wanted),
-        None => Ok(Expected::NoStep),
-    }
+}
+
+// The text of a part, none where its bytes are no text.
+fn text_of(part: &[u8]) -> &str {
+    str::from_utf8(part).unwrap_or("")
 }
 
 fn same(alloc: Global, there: &[u8], wanted: &[u8]) -> Result<Expected, AllocError> {

@@ -62,6 +62,7 @@ replay,--cap=1
 replay,--cache=1
 tour,--size=1
 tour,--tries=1,--tries=1
+info,--tries,2,--tries,3
 build,--budget,0
 build,--budget=4194305
 build,--budget=1,--budget=1
