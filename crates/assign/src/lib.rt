@@ -18,6 +18,3 @@ pub use naming::stream_of;
 pub use near::nearest;
 pub use plane::side;
 pub use root::root_of;
-
-#[cfg(test)]
-mod tests;

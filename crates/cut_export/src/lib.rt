@@ -5,8 +5,6 @@ mod export;
 mod numbering;
 mod part_buffer;
 mod part_text;
-#[cfg(test)]
-mod tests;
 
 pub use export::{ExportFault, write_mesh, write_numbered};
 pub use numbering::{Corners, Numbered};

@@ -16,6 +16,3 @@ pub use closing::Closing;
 pub use fault::GraphFault;
 pub use graph::Graph;
 pub use record::Record;
-
-#[cfg(test)]
-mod tests;

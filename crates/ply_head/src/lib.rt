@@ -11,8 +11,6 @@ mod names;
 mod number;
 mod seen;
 mod step;
-#[cfg(test)]
-mod tests;
 mod text;
 mod used;
 mod words;

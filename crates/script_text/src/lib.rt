@@ -6,8 +6,6 @@ mod command;
 mod line;
 mod line_text;
 mod script;
-#[cfg(test)]
-mod tests;
 
 pub use command::{print_line, read_line};
 pub use line::Line;

@@ -1,5 +1,5 @@
 pub mod Dividing
-mod Moving
+pub mod Moving
 mod Crowding
 mod Rooting
 mod CrowdLaw

@@ -12,6 +12,3 @@ mod root;
 
 pub use fault::SplitFault;
 pub use pass::split;
-
-#[cfg(test)]
-mod tests;

@@ -22,6 +22,3 @@ pub use descent::child;
 pub use shape::{Half, Halves, Tet, whole_point};
 pub use slot::member_count;
 pub use tuple::{corners, root};
-
-#[cfg(test)]
-mod tests;

@@ -8,6 +8,3 @@ mod wanting;
 pub use activity::active;
 pub use looking::Front;
 pub use wanting::{View, wants};
-
-#[cfg(test)]
-mod tests;
