@@ -1,16 +1,26 @@
 // Whether a part is closed.
 use std::alloc::{AllocError, Global};
 
-// The corners in a line of a triangle, as text.
-fn corners_of(line: &str) -> Option<[&str; 3]> {
+// The number before the first blank, and what stands behind that.
+fn first_number(line: &str) -> Option<(u32, &str)> {
+    let (word, rest) = line.split_once(' ')?;
+    Some((word.parse::<u32>().ok()?, rest))
+}
+
+// The vertices in a line of a triangle; a line of a vertex, which has three words, has none.
+fn corners_of(line: &str) -> Option<(u32, u32, u32)> {
     let rest = line.strip_prefix("3 ")?;
-    let (first, rest) = rest.split_once(' ')?;
-    let (second, third) = rest.split_once(' ')?;
-    if third.contains(' ') {
-        None
-    } else {
-        Some([first, second, third])
-    }
+    let (a, rest) = first_number(rest)?;
+    let (b, rest) = first_number(rest)?;
+    Some((a, b, rest.parse::<u32>().ok()?))
+}
+
+// Adds the directed edges of a triangle.
+fn add_edges(edges: &mut Vec<(u32, u32)>, a: u32, b: u32, c: u32) -> Result<(), AllocError> {
+    edges.push((a, b))?;
+    edges.push((b, c))?;
+    edges.push((c, a))?;
+    Ok(())
 }
 
 /// Whether each directed edge of the triangles of a part is there as often as the edge back. A part without a triangle isn't
@@ -22,12 +32,9 @@ pub fn is_closed(alloc: Global, part: &str) -> Result<bool, AllocError> {
     let mut there = Vec::new(alloc);
     let mut back = Vec::new(alloc);
     for line in lines.split('\n') {
-        // a vertex has three words, and a triangle four
-        if let Some([a, b, c]) = corners_of(line) {
-            for (from, to) in [(a, b), (b, c), (c, a)] {
-                there.push((from, to))?;
-                back.push((to, from))?;
-            }
+        if let Some((a, b, c)) = corners_of(line) {
+            add_edges(&mut there, a, b, c)?;
+            add_edges(&mut back, c, b, a)?;
         }
     }
     there.sort()?;
