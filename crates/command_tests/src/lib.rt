@@ -36,8 +36,11 @@
 mod build_tests;
 #[cfg(test)]
 mod case_tests;
+#[cfg(test)]
 mod cases;
+#[cfg(test)]
 mod closed;
+#[cfg(test)]
 mod devices;
 #[cfg(test)]
 mod finest_tests;
@@ -47,10 +50,14 @@ mod info_tests;
 mod replay_tests;
 #[cfg(test)]
 mod status_tests;
+#[cfg(test)]
 mod steps;
+#[cfg(test)]
 mod stores;
+#[cfg(test)]
 mod texts;
 #[cfg(test)]
 mod words_tests;
 
+#[cfg(test)]
 pub use cases::failures;
