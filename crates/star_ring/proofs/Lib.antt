@@ -1,0 +1,5 @@
+pub mod Blocks
+pub mod Changes
+pub mod Circles
+pub mod Counts
+pub mod Members
