@@ -45,6 +45,16 @@ apart (q ∷ qs) r s k once (inr h) (inl g) a b =
     absurd (omega (arith, times-append k q (concat qs), among_times qs r k h))
 apart (q ∷ qs) r s k once (inr h) (inr g) a b = apart qs r s k (omega (arith, times-append k q (concat qs))) h g a b
 
+-- a ring that lacks one node of another has none of its nodes
+pub away : (rs : List (List ℕ)) (r s : List ℕ) (k j : ℕ) → times j (concat rs) ≤ 1 → Among rs r → Among rs s → 1 ≤ times k s → times k r ≡ 0 → 1 ≤ times j s → times j r ≡ 0
+away rs r s k j once h g own lacks a =
+    elim (cases_Bool (has nat_eq r j)) [
+      | inl y ↦
+          let Q : List ℕ → Type 0 = λ (x : List ℕ). 1 ≤ times k x in
+          absurd (omega (arith, subst Q (sym (apart rs r s j once h g (has_times j r y) a)) own))
+      | inr y ↦ has_not_times j r y
+    ]
+
 module _ (P : List ℕ → Type 0) where
   pub holds_of : (rs : List (List ℕ)) (r : List ℕ) → AllByRecursion P rs → Among rs r → P r
   holds_of [] r all h = absurd h
