@@ -20,6 +20,12 @@ node_set ns k x h = get_or-set_same ns k x free_node h
 pub node_kept : (ns : List Node) (k j : ℕ) (x : Node) → (j ≡ k → ⊥) → node_at (slice_set ns k x) j ≡ node_at ns j
 node_kept ns k j x h = get_or-set_other ns k j x free_node h
 
+pub length-with_next : (ns : List Node) (k m : ℕ) → length (with_next ns k m) ≡ length ns
+length-with_next ns k m = length-set ns k (record { next = m; prev = prev_at ns k; linked = (node_at ns k).linked })
+
+pub length-with_prev : (ns : List Node) (k m : ℕ) → length (with_prev ns k m) ≡ length ns
+length-with_prev ns k m = length-set ns k (record { next = next_at ns k; prev = m; linked = (node_at ns k).linked })
+
 module _ (ns : List Node) (k m : ℕ) (h : k < length ns) where
   pub next_changed : next_at (with_next ns k m) k ≡ m
   next_changed = ap (λ (x : Node). x.next) (node_set ns k (record { next = m; prev = prev_at ns k; linked = (node_at ns k).linked }) h)

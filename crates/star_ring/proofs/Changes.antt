@@ -11,7 +11,7 @@ use Rattle.star_ring.specs.Layout.{free_node, node_at, next_at, prev_at, with_ne
 use Rattle.star_ring.proofs.Counts.{one, one_same, one_other, not_same, times-append, has_times, has_not_times, times_has, times_has_not, same_has, times-single, times-without, times-others, times-map_behind}
 use Rattle.star_ring.proofs.Circles.{swapped, circle_kept, circle_left, circle_joined}
 use Rattle.star_ring.proofs.Members.{Among, among_times, apart, away, holds_of, all_mapped, all_some, all_pushed, Split, left_none, behind_none, left_split, behind_split}
-use Rattle.star_ring.proofs.Blocks.{node_set, node_kept, next_changed, next_stays, next_beside, prev_changed, prev_stays, prev_beside, mark_beside_next, mark_beside_prev, Found, found, next_in_ring, prev_in_ring, next_below, prev_below}
+use Rattle.star_ring.proofs.Blocks.{node_set, node_kept, length-with_next, length-with_prev, next_changed, next_stays, next_beside, prev_changed, prev_stays, prev_beside, mark_beside_next, mark_beside_prev, Found, found, next_in_ring, prev_in_ring, next_below, prev_below}
 
 -- a ring of one more node
 module _ (ns : List Node) (rs : List (List ℕ)) (k : ℕ) (laid : IsLaid ns rs) (h : k < length ns) (free : in_a_ring rs k ≡ false) where
@@ -80,12 +80,10 @@ module _ (ns : List Node) (rs : List (List ℕ)) (k : ℕ) (laid : IsLaid ns rs)
   after_unlink = slice_set both_led k free_node
 
   same_long : length after_unlink ≡ length ns
-  same_long =
-      omega (arith, length-set both_led k free_node, length-set one_led nx (record { next = next_at one_led nx; prev = pv; linked = (node_at one_led nx).linked }),
-      length-set ns pv (record { next = nx; prev = prev_at ns pv; linked = (node_at ns pv).linked }))
+  same_long = length-set both_led k free_node ∙ length-with_prev one_led nx pv ∙ length-with_next ns pv nx
 
   long_one : length one_led ≡ length ns
-  long_one = length-set ns pv (record { next = nx; prev = prev_at ns pv; linked = (node_at ns pv).linked })
+  long_one = length-with_next ns pv nx
 
   next_elsewhere : (j : ℕ) → (j ≡ k → ⊥) → next_at after_unlink j ≡ next_at one_led j
   next_elsewhere j d =
@@ -195,16 +193,16 @@ module _ (ns : List Node) (rs : List (List ℕ)) (a b : ℕ) (laid : IsLaid ns r
   ns4 = with_prev ns3 bh la
 
   long1 : length ns1 ≡ length ns
-  long1 = length-set ns a (record { next = b; prev = prev_at ns a; linked = (node_at ns a).linked })
+  long1 = length-with_next ns a b
 
   long2 : length ns2 ≡ length ns
-  long2 = length-set ns1 b (record { next = next_at ns1 b; prev = a; linked = (node_at ns1 b).linked }) ∙ long1
+  long2 = length-with_prev ns1 b a ∙ long1
 
   long3 : length ns3 ≡ length ns
-  long3 = length-set ns2 la (record { next = bh; prev = prev_at ns2 la; linked = (node_at ns2 la).linked }) ∙ long2
+  long3 = length-with_next ns2 la bh ∙ long2
 
   long4 : length ns4 ≡ length ns
-  long4 = length-set ns3 bh (record { next = next_at ns3 bh; prev = la; linked = (node_at ns3 bh).linked }) ∙ long3
+  long4 = length-with_prev ns3 bh la ∙ long3
 
   in1 : a < length ns
   in1 = laid.below a ha

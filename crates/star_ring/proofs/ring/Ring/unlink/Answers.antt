@@ -1,7 +1,7 @@
-use Rattle.std.proofs.Common.{◌≡◌, true, ap, subst, sym}
+use Rattle.std.proofs.Common.{◌≡◌, ◌∙◌, true, length, ap, subst, sym}
 use Rattle.star_ring.specs.Rings.{Rings, in_a_ring}
 use Rattle.star_ring.specs.Layout.{IsLaid}
-use Rattle.star_ring.proofs.Blocks.{sound_from, prev_below, next_below}
+use Rattle.star_ring.proofs.Blocks.{sound_from, prev_below, next_below, length-with_next}
 use Rattle.star_ring.proofs.Changes.{laid_without}
 use Rattle.star_ring.proofs.ring.Ring.unlink.Goals as goal
 
@@ -13,7 +13,8 @@ set_next-requires c =
 pub set_prev-requires : goal.set_prev-requires
 set_prev-requires c =
     let linked : in_a_ring c.self.inside.listing.rings c.args.node ≡ true = subst (λ (s : Rings). in_a_ring s.rings c.args.node ≡ true) (sym c.self.view_is) c.requires.linked in
-    ?
+    let long : length c.set_next.new.self ≡ length c.self.inside.block = ap length c.set_next.ensures ∙ length-with_next _ _ _ in
+    rw (long, c.get-old.ensures) (next_below c.self.inside.block c.self.inside.listing.rings c.args.node c.self.invariant linked)
 
 laid : (c : goal.After-note) → IsLaid c.set.new.self c.note.new.self.rings
 laid c =
