@@ -3,3 +3,4 @@ pub mod Changes
 pub mod Circles
 pub mod Counts
 pub mod Members
+pub mod Nodes

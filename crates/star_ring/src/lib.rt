@@ -3,6 +3,7 @@
 
 mod block;
 mod node;
+mod raw;
 mod listing;
 mod ring;
 
