@@ -2,9 +2,9 @@
 #![tactic(auto)]
 
 mod block;
+mod listing;
 mod node;
 mod raw;
-mod listing;
 mod ring;
 
 pub use ring::Ring;

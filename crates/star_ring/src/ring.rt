@@ -5,8 +5,8 @@ ghost use Rattle.tpz_base.specs.Lists.{has};
 ghost use Rattle.std.specs.Prelude.{nat_eq, false, Some};
 
 use crate::block::Block;
-use crate::node::{FREE, Node};
 use crate::listing::{Listing, Step};
+use crate::node::{FREE, Node};
 use std::alloc::{AllocError, Global};
 use std::marker::Model;
 
