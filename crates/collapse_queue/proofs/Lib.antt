@@ -1,0 +1,4 @@
+pub mod Order
+pub mod HeapLaw
+pub mod SplitLaw
+pub mod UpdateLaw
