@@ -14,6 +14,10 @@ at xs k = get_or xs k 0
 either : {A B G : Type 0} → A ⊎ B → (A → G) → (B → G) → G
 either c f g = elim c [ inl a ↦ f a | inr b ↦ g b ]
 
+-- an exchange keeps the length
+pub length_swapped : (xs ys : List ℕ) (i j : ℕ) → ys ≡ swap xs i j → length ys ≡ length xs
+length_swapped xs ys i j is = ap length is ∙ length-swap xs i j
+
 module _ {K : Type 0} (keys : List (Option K)) where
   some_by : (a b : ℕ) → a ≡ b → IsSome (key_of keys b) → IsSome (key_of keys a)
   some_by a b e h = subst (λ (x : ℕ). IsSome (key_of keys x)) (sym e) h
@@ -25,7 +29,7 @@ module _ {K : Type 0} (keys : List (Option K)) where
   pub split_swapped : (xs ys : List ℕ) (i j n : ℕ) → i < n → j < n → n ≤ length xs → ys ≡ swap xs i j → IsSplit keys xs n → IsSplit keys ys n
   split_swapped xs ys i j n p q le is h =
       let s = swapped_from_swap xs ys i j 0 (omega arith) (omega arith) is in
-      let long : length ys ≡ length xs = ap length is ∙ length-swap xs i j in
+      let long : length ys ≡ length xs = length_swapped xs ys i j is in
       record {
         present = λ k a. either (cases_eq k i)
             (λ e. some_by _ (at xs j) (ap (at ys) e ∙ s.0) (h.present j q))
@@ -39,7 +43,7 @@ module _ {K : Type 0} (keys : List (Option K)) where
   pub split_entered : (xs ys : List ℕ) (j n : ℕ) → n ≤ j → j < length xs → ys ≡ swap xs j n → IsSome (key_of keys (at xs j)) → IsSplitBut keys xs j n → IsSplit keys ys (n + 1)
   split_entered xs ys j n le long is key h =
       let s = swapped_from_swap xs ys j n 0 (omega arith) (omega arith) is in
-      let same : length ys ≡ length xs = ap length is ∙ length-swap xs j n in
+      let same : length ys ≡ length xs = length_swapped xs ys j n is in
       record {
         present = λ k a. either (cases_eq k n)
             (λ e. some_by _ (at xs j) (ap (at ys) e ∙ s.1) key)
@@ -53,7 +57,7 @@ module _ {K : Type 0} (keys : List (Option K)) where
   pub split_left : (xs ys : List ℕ) (j last : ℕ) → j < last + 1 → last + 1 ≤ length xs → ys ≡ swap xs j last → key_of keys (at xs j) ≡ None → IsSplitBut keys xs j (last + 1) → IsSplit keys ys last
   split_left xs ys j last le long is key h =
       let s = swapped_from_swap xs ys j last 0 (omega arith) (omega arith) is in
-      let same : length ys ≡ length xs = ap length is ∙ length-swap xs j last in
+      let same : length ys ≡ length xs = length_swapped xs ys j last is in
       record {
         present = λ k a. either (cases_eq k j)
             (λ e. some_by _ (at xs last) (ap (at ys) e ∙ s.0) (h.present last (omega arith) (omega arith)))
