@@ -1,9 +1,10 @@
 -- Which places have keys, after an exchange and after a new key.
-use Rattle.std.proofs.Common.{◌≡◌, ◌≢◌, ℕ, ◌+◌, ◌-◌, ◌<◌, ◌≤◌, Bool, true, false, List, Option, None, IsSome, length, get_or, refl, sym, ap, ◌∙◌, subst, ◌⊎◌, inl, inr, arith}
-use Rattle.std.proofs.lemmas.Bool.{cases_eq}
-use Rattle.std.proofs.lemmas.List.{length-set, get_or-set_other}
+use Rattle.std.proofs.Common.{◌≡◌, ◌≢◌, ℕ, ◌+◌, ◌-◌, ◌<◌, ◌≤◌, Bool, true, false, List, Option, Some, None, IsSome, length, get_or, refl, sym, ap, ◌∙◌, subst, ◌⊎◌, inl, inr, arith}
+use Rattle.std.proofs.lemmas.Bool.{cases_eq, cases_lt}
+use Rattle.std.proofs.lemmas.List.{get_or-set_same, get_or-set_other}
 use Rattle.std.proofs.lemmas.List.Edits.{swapped_from_swap, length-swap}
 use Rattle.std.specs.List.{swap}
+use Rattle.std.specs.Option.{is_some}
 use Rattle.std.specs.Prelude.{slice_set}
 use Rattle.collapse_queue.specs.Queues.{key_of}
 use Rattle.collapse_queue.specs.Heaps.{AreInverse, IsSplit, IsSplitBut}
@@ -86,3 +87,15 @@ split_but keys xs places j id n key inv p le e h =
       present = λ k a u. subst (λ (o : Option _). IsSome o) (sym (apart k (omega arith) u)) (h.present k a);
       absent = λ k a b u. apart k b u ∙ h.absent k a b;
     }
+
+-- an id with a key stands in the heap
+pub place_within : {K : Type 0} (keys : List (Option K)) (xs : List ℕ) (j id n : ℕ) → j < length xs → at xs j ≡ id → IsSome (key_of keys id) → IsSplit keys xs n → j < n
+place_within keys xs j id n p e some h = either (cases_lt j n) (λ a. a)
+    (λ a. let none : key_of keys id ≡ None = ap (key_of keys) (sym e) ∙ h.absent j a p in let b = subst (λ (o : Option _). IsSome o) none some in absurd (cc))
+
+-- an id of the heap has another key
+pub split_rekeyed : {K : Type 0} (keys : List (Option K)) (xs places : List ℕ) (j id n : ℕ) (key : K) → AreInverse xs places → j < length xs → n ≤ length xs → at xs j ≡ id → id < length keys → IsSome (key_of keys id) → IsSplit keys xs n →
+    IsSplit (slice_set keys id (Some key)) xs n
+split_rekeyed keys xs places j id n key inv p le e in' some h =
+    let new : key_of (slice_set keys id (Some key)) (at xs j) ≡ Some key = ap (key_of (slice_set keys id (Some key))) e ∙ get_or-set_same keys id (Some key) None in' in
+    split_whole (slice_set keys id (Some key)) xs j n (place_within keys xs j id n p e some h) (ap is_some new) (split_but keys xs places j id n (Some key) inv p le e h)

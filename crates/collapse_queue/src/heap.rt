@@ -1,5 +1,5 @@
 // The ids below a capacity in an order, with the place of each, and the moves that make a heap of the first of them.
-ghost use Rattle.std.specs.Prelude.{◌≡◌, ◌<◌, ◌≤◌, ◌+◌, ◌*◌, ◌/◌, ◌^◌, ℕ, true, IfOk, IfSome, IfNone, IsSome, None, length, slice_index};
+ghost use Rattle.std.specs.Prelude.{◌≡◌, ◌<◌, ◌≤◌, ◌+◌, ◌*◌, ◌/◌, ◌^◌, ◌↔◌, ℕ, true, IfOk, IfSome, IfNone, IsNone, IsSome, None, length, slice_index};
 ghost use Rattle.std.specs.List.{swap};
 ghost use Rattle.collapse_queue.specs.Queues.{key_of};
 ghost use Rattle.collapse_queue.specs.Heaps.{is_before, AreInverse, IsSplit, IsSplitBut, IsHeap, IsHeapBut, IsBeforeChildren, IsAfterParent, IsFirstChild};
@@ -62,8 +62,17 @@ impl Heap {
         self.places[id as usize]
     }
 
+    /// The first id of the heap.
+    pub fn first(&self) -> Option<u32>
+        ensures none { IsNone result ↔ (self.now.len ≡ 0) }
+        ensures first { IfSome result (λ id. id ≡ slice_index self.now.ids.items 0) }
+        ensures within { IfSome result (λ id. id < length self.now.ids.items) }
+    {
+        if self.len == 0 { None } else { Some(self.ids[0]) }
+    }
+
     /// Exchanges the ids at two places.
-    pub fn swap(&mut self, i: u32, j: u32)
+    fn swap(&mut self, i: u32, j: u32)
         requires i { i < length self.old.ids.items }
         requires j { j < length self.old.ids.items }
         ensures ids { self.new.ids.items ≡ swap self.old.ids.items i j }

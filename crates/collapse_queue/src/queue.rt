@@ -96,6 +96,16 @@ impl<K: Ord + Copy> Queue<K> {
         self.heap.leave(&self.keys, at);
     }
 
+    /// The id whose key is the least, the lowest id where several have it, with its key.
+    fn least(&self) -> Option<(u32, K)>
+        ensures none { IsNone result ↔ (self.now ≡ empty_queue (length self.now)) }
+        ensures least { IfSome result (IsLeast K.cmp self.now) }
+    {
+        let id = self.heap.first()?;
+        let key = self.keys[id as usize]?;
+        Some((id, key))
+    }
+
     /// Takes the id out whose key is the least, the lowest id where several have it, and gives it with its key.
     pub fn take_least(&mut self) -> Option<(u32, K)>
         ensures none { IsNone result ↔ (self.old ≡ empty_queue (length self.old)) }
@@ -103,13 +113,9 @@ impl<K: Ord + Copy> Queue<K> {
         ensures others { IfSome result (λ e. self.new ≡ slice_set self.old e.0 None) }
         ensures empty { IfNone result (self.new ≡ self.old) }
     {
-        if self.heap.len == 0 {
-            return None;
-        }
-        let id = self.heap.ids[0];
-        let key = self.keys[id as usize]?;
-        self.withdraw(id);
-        Some((id, key))
+        let entry = self.least()?;
+        self.withdraw(entry.0);
+        Some(entry)
     }
 
     /// Takes all ids out, in a number of steps that grows with their number.

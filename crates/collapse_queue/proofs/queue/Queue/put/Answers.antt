@@ -1,11 +1,16 @@
-use Rattle.std.proofs.Common.{rules, ◌≡◌, ◌<◌, ◌≤◌, ◌↔◌, ℕ, IfOk, IfSome, IfNone, IsNone, IsSome, Some, None, length, slice_index, slice_set, is_some, ◌+◌, ◌-◌, ◌*◌, ◌/◌, ◌%◌, Bool, true, false, nat_eq, nat_lt, List, [], ◌∷◌, ◌++◌, slice_index_or, bit_and, bit_or, Fits, w8, w32, w64, Bor, MutBor}
-use Rattle.collapse_queue.specs.Queues.{key_of, empty_queue, IsLeast}
+-- A new key of an id leaves the heap in order but at its place.
+use Rattle.std.proofs.Common.{subst, sym, arith, Some, List, Option}
+use Rattle.collapse_queue.specs.Heaps.{is_before, IsSplitBut, IsHeapBut}
+use Rattle.collapse_queue.proofs.SplitLaw.{split_but}
+use Rattle.collapse_queue.proofs.UpdateLaw.{heap_but}
 use Rattle.collapse_queue.proofs.queue.Queue.put.Goals as goal
 
--- src/queue.rt:76:9
 pub enter-requires-clause-split : goal.enter-requires-clause-split
-enter-requires-clause-split g c = ?
+enter-requires-clause-split g c =
+    let h = c.self.inside.heap in
+    rw c.deref.ensures.value (split_but c.self.inside.keys.items h.ids.items h.places.items c.place_of-at.result c.args.id h.len (Some c.args.key) h.inverse c.place_of-at.ensures.within h.within c.place_of-at.ensures.id c.self.invariant.split)
 
--- src/queue.rt:76:9
 pub enter-requires-clause-but : goal.enter-requires-clause-but
-enter-requires-clause-but g c = ?
+enter-requires-clause-but g c =
+    let h = c.self.inside.heap in
+    rw c.deref.ensures.value (heap_but g.met.K.Ord.total c.self.inside.keys.items h.ids.items h.places.items c.place_of-at.result c.args.id h.len (Some c.args.key) h.inverse c.place_of-at.ensures.within h.within c.place_of-at.ensures.id c.self.invariant.heap)
