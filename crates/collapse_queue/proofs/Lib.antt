@@ -1,5 +1,5 @@
 pub mod Order
 pub mod HeapLaw
-pub mod SplitLaw
+pub mod KeyedLaw
 pub mod UpdateLaw
 pub mod QueueLaw

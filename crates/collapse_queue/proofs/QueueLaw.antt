@@ -1,13 +1,13 @@
 -- The queue is empty where the heap has no place, and the first id of the heap is the least entry.
-use Rattle.std.proofs.Common.{◌≡◌, ◌≢◌, ℕ, ◌+◌, ◌-◌, ◌<◌, ◌≤◌, Bool, true, false, List, Option, Some, None, IsSome, length, get_or, take, replicate, refl, sym, ap, ◌∙◌, subst, ◌⊎◌, inl, inr, arith}
+use Rattle.std.proofs.Common.{◌≡◌, ℕ, ◌<◌, ◌≤◌, Bool, false, List, Option, Some, None, IsSome, length, get_or, take, replicate, sym, ap, ◌∙◌, subst, ◌⊎◌, inl, inr, arith}
 use Rattle.std.proofs.lemmas.Bool.{cases_lt}
 use Rattle.std.proofs.lemmas.List.{length-replicate, get_or-replicate, get_or_past, get_or_default, get_or-take, length-take-le, same_lists}
 use Rattle.std.specs.Cmp.{IsTotalOrder}
 use Rattle.std.specs.declared.cmp.Ordering.{Ordering}
 use Rattle.std.specs.Option.{option_cmp, is_some}
 use Rattle.std.specs.Ordering.{nat_cmp, ordering_then, is_lt}
-use Rattle.collapse_queue.specs.Queues.{key_of, empty_queue, comes_before, IsLeast}
-use Rattle.collapse_queue.specs.Heaps.{is_before, parent_of, AreInverse, IsSplit, IsHeap, IsQueue}
+use Rattle.collapse_queue.specs.Queues.{key_of, empty_queue, IsLeast}
+use Rattle.collapse_queue.specs.Heaps.{is_before, AreInverse, IsKeyedBelow, IsHeap, IsQueue}
 use Rattle.collapse_queue.proofs.Order.{before_orders}
 use Rattle.collapse_queue.proofs.HeapLaw.{top}
 
@@ -33,22 +33,22 @@ empty_by_keys q h = same_lists q (empty_queue (length q)) (sym (length-replicate
     (λ k d p. get_or_default q k d None p ∙ h k ∙ sym (get_or-replicate (length q) k None d p))
 
 -- where the heap has no place, no id has a key
-pub no_keys : {K : Type 0} (keys : List (Option K)) (ids places : List ℕ) → AreInverse ids places → length keys ≡ length ids → IsSplit keys ids 0 → (id : ℕ) → key_of keys id ≡ None
+pub no_keys : {K : Type 0} (keys : List (Option K)) (ids places : List ℕ) → AreInverse ids places → length keys ≡ length ids → IsKeyedBelow keys ids 0 → (id : ℕ) → key_of keys id ≡ None
 no_keys keys ids places inv same h id = either (cases_lt id (length ids))
     (λ p. ap (key_of keys) (sym (inv.id_of_place id p)) ∙ h.absent (at places id) (omega arith) (inv.place_in_range id p))
     (λ p. get_or_past keys id None (omega arith))
 
 -- a heap without places
-pub no_split : {K : Type 0} (keys : List (Option K)) (ids : List ℕ) → ((id : ℕ) → key_of keys id ≡ None) → IsSplit keys ids 0
-no_split keys ids h = record { present = λ k p. absurd (omega arith); absent = λ k p q. h (at ids k) }
+pub none_keyed : {K : Type 0} (keys : List (Option K)) (ids : List ℕ) → ((id : ℕ) → key_of keys id ≡ None) → IsKeyedBelow keys ids 0
+none_keyed keys ids h = record { present = λ k p. absurd (omega arith); absent = λ k p q. h (at ids k) }
 
 pub no_heap : (before : ℕ → ℕ → Bool) (ids : List ℕ) → IsHeap before ids 0
 no_heap before ids = record { ordered = λ k p q. absurd (omega arith) }
 
 -- the keys of the first ids are taken away
-pub forgotten : {K : Type 0} (keys new : List (Option K)) (ids places slice : List ℕ) (n : ℕ) → AreInverse ids places → length keys ≡ length ids → n ≤ length ids → IsSplit keys ids n → slice ≡ ids →
+pub keys_cleared : {K : Type 0} (keys new : List (Option K)) (ids places slice : List ℕ) (n : ℕ) → AreInverse ids places → length keys ≡ length ids → n ≤ length ids → IsKeyedBelow keys ids n → slice ≡ ids →
     ((k : ℕ) → k < length (take n slice) → key_of new (at (take n slice) k) ≡ None) → ((id : ℕ) → key_of keys id ≡ None → key_of new id ≡ None) → (id : ℕ) → key_of new id ≡ None
-forgotten keys new ids places slice n inv same le h e gone absent id = either (cases_lt id (length ids))
+keys_cleared keys new ids places slice n inv same le h e gone absent id = either (cases_lt id (length ids))
     (λ p. either (cases_lt (at places id) n)
     (λ q. let long : length slice ≡ length ids = ap length e in
     let in' : at places id < length (take n slice) = omega (arith, length-take-le n slice (omega arith)) in
@@ -70,5 +70,5 @@ least_first {cmp = cmp} o keys ids places n first key inv q f e = record {
       either (cases_lt p n)
       (λ a. let ordered : is_before cmp keys id first ≡ false = (λ i. is_before cmp keys (sym is i) (f i)) ∙ top _ (before_orders o keys) ids n p q.heap a in
       (λ i. is_lt (ordering_then (option_cmp cmp (sym h i) (sym e i)) (nat_cmp id first))) ∙ ordered)
-      (λ a. let none : key_of keys id ≡ None = ap (key_of keys) (sym is) ∙ q.split.absent p a (inv.place_in_range id in') in absurd (cc));
+      (λ a. let none : key_of keys id ≡ None = ap (key_of keys) (sym is) ∙ q.keyed.absent p a (inv.place_in_range id in') in absurd (cc));
 }

@@ -1,5 +1,5 @@
 -- What a new key of one id, and its way into the heap and out of it, leave of a heap.
-use Rattle.std.proofs.Common.{◌≡◌, ◌≢◌, ℕ, ◌+◌, ◌-◌, ◌<◌, ◌≤◌, Bool, true, false, List, Option, length, get_or, refl, sym, ap, ◌∙◌, arith}
+use Rattle.std.proofs.Common.{◌≡◌, ◌≢◌, ℕ, ◌+◌, ◌<◌, ◌≤◌, Bool, false, List, Option, length, get_or, sym, ◌∙◌, arith}
 use Rattle.std.proofs.lemmas.List.Edits.{swapped_from_swap}
 use Rattle.std.specs.Cmp.{IsTotalOrder}
 use Rattle.std.specs.declared.cmp.Ordering.{Ordering}
@@ -7,7 +7,7 @@ use Rattle.std.specs.List.{swap}
 use Rattle.std.specs.Prelude.{slice_set}
 use Rattle.collapse_queue.specs.Heaps.{is_before, parent_of, AreInverse, IsHeap, IsHeapBut, IsBeforeChildren}
 use Rattle.collapse_queue.proofs.Order.{before_orders, is_before_elsewhere}
-use Rattle.collapse_queue.proofs.SplitLaw.{distinct}
+use Rattle.collapse_queue.proofs.KeyedLaw.{distinct}
 
 abbrev at : List ℕ → ℕ → ℕ
 at xs k = get_or xs k 0
@@ -21,28 +21,28 @@ module _ (before : ℕ → ℕ → Bool) where
     s = swapped_from_swap xs ys j n 0 (omega arith) (omega arith) is
 
     -- the first place behind the heap takes the id of a later place
-    pub entered_but : IsHeapBut before ys n (n + 1)
-    entered_but = record {
+    pub inserted_but : IsHeapBut before ys n (n + 1)
+    inserted_but = record {
       others = λ k a b u v. by _ _ (at xs k) (at xs (parent_of k)) (s.2 k (omega arith) u) (s.2 (parent_of k) (omega arith) v) (but.others k a (omega arith) (omega arith) (omega arith));
       around = λ k a b e w. absurd (omega arith);
     }
 
-    pub entered_children : IsBeforeChildren before ys n (n + 1)
-    entered_children = record { children = λ k a b e. absurd (omega arith) }
+    pub inserted_children : IsBeforeChildren before ys n (n + 1)
+    inserted_children = record { children = λ k a b e. absurd (omega arith) }
 
   module _ (xs ys : List ℕ) (j last : ℕ) (le : j < last + 1) (long : last + 1 ≤ length xs) (is : ys ≡ swap xs j last) (but : IsHeapBut before xs j (last + 1)) where
     s' : (at ys j ≡ at xs last) × (at ys last ≡ at xs j) × ((m : ℕ) → (m ≡ j → ⊥) → (m ≡ last → ⊥) → at ys m ≡ at xs m)
     s' = swapped_from_swap xs ys j last 0 (omega arith) (omega arith) is
 
     -- the last place of the heap takes the id of an earlier place
-    pub left_but : IsHeapBut before ys j last
-    left_but = record {
+    pub removed_but : IsHeapBut before ys j last
+    removed_but = record {
       others = λ k a b u v. by _ _ (at xs k) (at xs (parent_of k)) (s'.2 k u (omega arith)) (s'.2 (parent_of k) v (omega arith)) (but.others k a (omega arith) u v);
       around = λ k a b e w. by _ _ (at xs k) (at xs (parent_of j)) (s'.2 k (omega arith) (omega arith)) (s'.2 (parent_of j) (omega arith) (omega arith)) (but.around k a (omega arith) e w);
     }
 
-    pub left_heap : last ≤ j → IsHeap before ys last
-    left_heap w = record { ordered = λ k a b. left_but.others k a b (omega arith) (omega arith) }
+    pub removed_heap : last ≤ j → IsHeap before ys last
+    removed_heap w = record { ordered = λ k a b. removed_but.others k a b (omega arith) (omega arith) }
 
 -- the key of the id at a place is changed
 pub heap_but : {K : Type 0} {cmp : K → K → Ordering} → IsTotalOrder cmp → (keys : List (Option K)) (xs places : List ℕ) (j id n : ℕ) (key : Option K) → AreInverse xs places → j < length xs → n ≤ length xs → at xs j ≡ id →

@@ -2,7 +2,7 @@
 ghost use Rattle.std.specs.Prelude.{◌≡◌, ◌<◌, ◌≤◌, ◌+◌, ◌*◌, ◌/◌, ◌^◌, ◌↔◌, ℕ, true, IfOk, IfSome, IfNone, IsNone, IsSome, None, length, slice_index};
 ghost use Rattle.std.specs.List.{swap};
 ghost use Rattle.collapse_queue.specs.Queues.{key_of};
-ghost use Rattle.collapse_queue.specs.Heaps.{is_before, AreInverse, IsSplit, IsSplitBut, IsHeap, IsHeapBut, IsBeforeChildren, IsAfterParent, IsFirstChild};
+ghost use Rattle.collapse_queue.specs.Heaps.{is_before, AreInverse, IsKeyedBelow, IsKeyedBelowBut, IsHeap, IsHeapBut, IsBeforeChildren, IsAfterParent, IsFirstChild};
 
 use std::alloc::{AllocError, Global};
 
@@ -129,10 +129,10 @@ impl Heap {
     fn sift_up<K: Ord>(&mut self, keys: &[Option<K>], start: u32)
         requires start { start < self.old.len }
         requires keys { length keys.now ≡ length self.old.ids.items }
-        requires split { IsSplit keys.now self.old.ids.items self.old.len }
+        requires keyed { IsKeyedBelow keys.now self.old.ids.items self.old.len }
         requires but { IsHeapBut (is_before K.cmp keys.now) self.old.ids.items start self.old.len }
         requires children { IsBeforeChildren (is_before K.cmp keys.now) self.old.ids.items start self.old.len }
-        ensures split { IsSplit keys.now self.new.ids.items self.new.len }
+        ensures keyed { IsKeyedBelow keys.now self.new.ids.items self.new.len }
         ensures heap { IsHeap (is_before K.cmp keys.now) self.new.ids.items self.new.len }
         ensures len { self.new.len ≡ self.old.len }
         ensures ids { length self.new.ids.items ≡ length self.old.ids.items }
@@ -149,10 +149,10 @@ impl Heap {
     fn sift_down<K: Ord>(&mut self, keys: &[Option<K>], start: u32)
         requires start { start < self.old.len }
         requires keys { length keys.now ≡ length self.old.ids.items }
-        requires split { IsSplit keys.now self.old.ids.items self.old.len }
+        requires keyed { IsKeyedBelow keys.now self.old.ids.items self.old.len }
         requires but { IsHeapBut (is_before K.cmp keys.now) self.old.ids.items start self.old.len }
         requires parent { IsAfterParent (is_before K.cmp keys.now) self.old.ids.items start }
-        ensures split { IsSplit keys.now self.new.ids.items self.new.len }
+        ensures keyed { IsKeyedBelow keys.now self.new.ids.items self.new.len }
         ensures heap { IsHeap (is_before K.cmp keys.now) self.new.ids.items self.new.len }
         ensures len { self.new.len ≡ self.old.len }
         ensures ids { length self.new.ids.items ≡ length self.old.ids.items }
@@ -168,9 +168,9 @@ impl Heap {
     pub fn sift<K: Ord>(&mut self, keys: &[Option<K>], at: u32)
         requires at { at < self.old.len }
         requires keys { length keys.now ≡ length self.old.ids.items }
-        requires split { IsSplit keys.now self.old.ids.items self.old.len }
+        requires keyed { IsKeyedBelow keys.now self.old.ids.items self.old.len }
         requires but { IsHeapBut (is_before K.cmp keys.now) self.old.ids.items at self.old.len }
-        ensures split { IsSplit keys.now self.new.ids.items self.new.len }
+        ensures keyed { IsKeyedBelow keys.now self.new.ids.items self.new.len }
         ensures heap { IsHeap (is_before K.cmp keys.now) self.new.ids.items self.new.len }
         ensures len { self.new.len ≡ self.old.len }
         ensures ids { length self.new.ids.items ≡ length self.old.ids.items }
@@ -183,14 +183,14 @@ impl Heap {
     }
 
     /// Takes the id at a place behind the heap, which has a key now, into the heap.
-    pub fn enter<K: Ord>(&mut self, keys: &[Option<K>], at: u32)
+    pub fn insert<K: Ord>(&mut self, keys: &[Option<K>], at: u32)
         requires behind { self.old.len ≤ at }
         requires at { at < length self.old.ids.items }
         requires keys { length keys.now ≡ length self.old.ids.items }
         requires key { IsSome (key_of keys.now (slice_index self.old.ids.items at)) }
-        requires split { IsSplitBut keys.now self.old.ids.items at self.old.len }
+        requires keyed { IsKeyedBelowBut keys.now self.old.ids.items at self.old.len }
         requires but { IsHeapBut (is_before K.cmp keys.now) self.old.ids.items at self.old.len }
-        ensures split { IsSplit keys.now self.new.ids.items self.new.len }
+        ensures keyed { IsKeyedBelow keys.now self.new.ids.items self.new.len }
         ensures heap { IsHeap (is_before K.cmp keys.now) self.new.ids.items self.new.len }
         ensures ids { length self.new.ids.items ≡ length self.old.ids.items }
     {
@@ -201,13 +201,13 @@ impl Heap {
     }
 
     /// Takes the id at a place of the heap, which has no key now, out of the heap.
-    pub fn leave<K: Ord>(&mut self, keys: &[Option<K>], at: u32)
+    pub fn remove<K: Ord>(&mut self, keys: &[Option<K>], at: u32)
         requires at { at < self.old.len }
         requires keys { length keys.now ≡ length self.old.ids.items }
         requires key { key_of keys.now (slice_index self.old.ids.items at) ≡ None }
-        requires split { IsSplitBut keys.now self.old.ids.items at self.old.len }
+        requires keyed { IsKeyedBelowBut keys.now self.old.ids.items at self.old.len }
         requires but { IsHeapBut (is_before K.cmp keys.now) self.old.ids.items at self.old.len }
-        ensures split { IsSplit keys.now self.new.ids.items self.new.len }
+        ensures keyed { IsKeyedBelow keys.now self.new.ids.items self.new.len }
         ensures heap { IsHeap (is_before K.cmp keys.now) self.new.ids.items self.new.len }
         ensures ids { length self.new.ids.items ≡ length self.old.ids.items }
     {

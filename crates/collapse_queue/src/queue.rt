@@ -18,7 +18,7 @@ fn no_keys<K: Copy>(alloc: Global, cap: u32) -> Result<Vec<Option<K>>, AllocErro
 }
 
 /// Takes the keys of the ids away.
-fn forget<K: Copy>(keys: &mut [Option<K>], ids: &[u32])
+fn clear_keys<K: Copy>(keys: &mut [Option<K>], ids: &[u32])
     requires { (k : ℕ) → k < length ids.now → slice_index ids.now k < length keys.old }
     ensures gone { (k : ℕ) → k < length ids.now → key_of keys.new (slice_index ids.now k) ≡ None }
     ensures absent { (id : ℕ) → key_of keys.old id ≡ None → key_of keys.new id ≡ None }
@@ -73,7 +73,7 @@ impl<K: Ord + Copy> Queue<K> {
     {
         let at = self.heap.place_of(id);
         self.keys[id as usize] = Some(key);
-        self.heap.enter(&self.keys, at);
+        self.heap.insert(&self.keys, at);
     }
 
     /// Gives an id of the queue another key.
@@ -93,7 +93,7 @@ impl<K: Ord + Copy> Queue<K> {
     {
         let at = self.heap.place_of(id);
         self.keys[id as usize] = None;
-        self.heap.leave(&self.keys, at);
+        self.heap.remove(&self.keys, at);
     }
 
     /// The id whose key is the least, the lowest id where several have it, with its key.
@@ -122,7 +122,7 @@ impl<K: Ord + Copy> Queue<K> {
     pub fn clear(&mut self)
         ensures { self.new ≡ empty_queue (length self.old) }
     {
-        forget(&mut self.keys, &self.heap.ids[..self.heap.len as usize]);
+        clear_keys(&mut self.keys, &self.heap.ids[..self.heap.len as usize]);
         self.heap.len = 0;
     }
 }

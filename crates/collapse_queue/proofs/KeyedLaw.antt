@@ -1,5 +1,5 @@
 -- Which places have keys, after an exchange and after a new key.
-use Rattle.std.proofs.Common.{◌≡◌, ◌≢◌, ℕ, ◌+◌, ◌-◌, ◌<◌, ◌≤◌, Bool, true, false, List, Option, Some, None, IsSome, length, get_or, refl, sym, ap, ◌∙◌, subst, ◌⊎◌, inl, inr, arith}
+use Rattle.std.proofs.Common.{◌≡◌, ◌≢◌, ℕ, ◌+◌, ◌<◌, ◌≤◌, List, Option, Some, None, IsSome, length, get_or, sym, ap, ◌∙◌, subst, ◌⊎◌, inl, inr, arith}
 use Rattle.std.proofs.lemmas.Bool.{cases_eq, cases_lt}
 use Rattle.std.proofs.lemmas.List.{get_or-set_same, get_or-set_other}
 use Rattle.std.proofs.lemmas.List.Edits.{swapped_from_swap, length-swap}
@@ -7,7 +7,7 @@ use Rattle.std.specs.List.{swap}
 use Rattle.std.specs.Option.{is_some}
 use Rattle.std.specs.Prelude.{slice_set}
 use Rattle.collapse_queue.specs.Queues.{key_of}
-use Rattle.collapse_queue.specs.Heaps.{AreInverse, IsSplit, IsSplitBut}
+use Rattle.collapse_queue.specs.Heaps.{AreInverse, IsKeyedBelow, IsKeyedBelowBut}
 
 abbrev at : List ℕ → ℕ → ℕ
 at xs k = get_or xs k 0
@@ -27,8 +27,8 @@ module _ {K : Type 0} (keys : List (Option K)) where
   none_by a b e h = ap (key_of keys) e ∙ h
 
   -- two places of the heap are exchanged
-  pub split_swapped : (xs ys : List ℕ) (i j n : ℕ) → i < n → j < n → n ≤ length xs → ys ≡ swap xs i j → IsSplit keys xs n → IsSplit keys ys n
-  split_swapped xs ys i j n p q le is h =
+  pub keyed_swapped : (xs ys : List ℕ) (i j n : ℕ) → i < n → j < n → n ≤ length xs → ys ≡ swap xs i j → IsKeyedBelow keys xs n → IsKeyedBelow keys ys n
+  keyed_swapped xs ys i j n p q le is h =
       let s = swapped_from_swap xs ys i j 0 (omega arith) (omega arith) is in
       let long : length ys ≡ length xs = length_swapped xs ys i j is in
       record {
@@ -41,8 +41,8 @@ module _ {K : Type 0} (keys : List (Option K)) where
       }
 
   -- the first place behind the heap takes an id with a key
-  pub split_entered : (xs ys : List ℕ) (j n : ℕ) → n ≤ j → j < length xs → ys ≡ swap xs j n → IsSome (key_of keys (at xs j)) → IsSplitBut keys xs j n → IsSplit keys ys (n + 1)
-  split_entered xs ys j n le long is key h =
+  pub keyed_inserted : (xs ys : List ℕ) (j n : ℕ) → n ≤ j → j < length xs → ys ≡ swap xs j n → IsSome (key_of keys (at xs j)) → IsKeyedBelowBut keys xs j n → IsKeyedBelow keys ys (n + 1)
+  keyed_inserted xs ys j n le long is key h =
       let s = swapped_from_swap xs ys j n 0 (omega arith) (omega arith) is in
       let same : length ys ≡ length xs = length_swapped xs ys j n is in
       record {
@@ -55,8 +55,8 @@ module _ {K : Type 0} (keys : List (Option K)) where
       }
 
   -- the last place of the heap takes an id without a key
-  pub split_left : (xs ys : List ℕ) (j last : ℕ) → j < last + 1 → last + 1 ≤ length xs → ys ≡ swap xs j last → key_of keys (at xs j) ≡ None → IsSplitBut keys xs j (last + 1) → IsSplit keys ys last
-  split_left xs ys j last le long is key h =
+  pub keyed_removed : (xs ys : List ℕ) (j last : ℕ) → j < last + 1 → last + 1 ≤ length xs → ys ≡ swap xs j last → key_of keys (at xs j) ≡ None → IsKeyedBelowBut keys xs j (last + 1) → IsKeyedBelow keys ys last
+  keyed_removed xs ys j last le long is key h =
       let s = swapped_from_swap xs ys j last 0 (omega arith) (omega arith) is in
       let same : length ys ≡ length xs = length_swapped xs ys j last is in
       record {
@@ -69,8 +69,8 @@ module _ {K : Type 0} (keys : List (Option K)) where
       }
 
   -- the place left out has a key too
-  pub split_whole : (xs : List ℕ) (j n : ℕ) → j < n → IsSome (key_of keys (at xs j)) → IsSplitBut keys xs j n → IsSplit keys xs n
-  split_whole xs j n p key h = record {
+  pub keyed_whole : (xs : List ℕ) (j n : ℕ) → j < n → IsSome (key_of keys (at xs j)) → IsKeyedBelowBut keys xs j n → IsKeyedBelow keys xs n
+  keyed_whole xs j n p key h = record {
     present = λ k a. either (cases_eq k j) (λ e. some_by _ (at xs j) (ap (at xs) e) key) (λ u. h.present k a u);
     absent = λ k a b. h.absent k a b (omega arith);
   }
@@ -80,8 +80,8 @@ pub distinct : (xs places : List ℕ) → AreInverse xs places → (j k : ℕ) �
 distinct xs places h j k p q u = λ e. u (sym (h.place_of_id k q) ∙ ap (at places) e ∙ h.place_of_id j p)
 
 -- the key of the id at a place is changed
-pub split_but : {K : Type 0} (keys : List (Option K)) (xs places : List ℕ) (j id n : ℕ) (key : Option K) → AreInverse xs places → j < length xs → n ≤ length xs → at xs j ≡ id → IsSplit keys xs n → IsSplitBut (slice_set keys id key) xs j n
-split_but keys xs places j id n key inv p le e h =
+pub keyed_but : {K : Type 0} (keys : List (Option K)) (xs places : List ℕ) (j id n : ℕ) (key : Option K) → AreInverse xs places → j < length xs → n ≤ length xs → at xs j ≡ id → IsKeyedBelow keys xs n → IsKeyedBelowBut (slice_set keys id key) xs j n
+keyed_but keys xs places j id n key inv p le e h =
     let apart = λ (k : ℕ) (q : k < length xs) (u : k ≢ j). let d : at xs k ≢ id = (λ f. distinct xs places inv j k p q u (f ∙ sym e)) in get_or-set_other keys id (at xs k) key None d in
     record {
       present = λ k a u. subst (λ (o : Option _). IsSome o) (sym (apart k (omega arith) u)) (h.present k a);
@@ -89,13 +89,13 @@ split_but keys xs places j id n key inv p le e h =
     }
 
 -- an id with a key stands in the heap
-pub place_within : {K : Type 0} (keys : List (Option K)) (xs : List ℕ) (j id n : ℕ) → j < length xs → at xs j ≡ id → IsSome (key_of keys id) → IsSplit keys xs n → j < n
+pub place_within : {K : Type 0} (keys : List (Option K)) (xs : List ℕ) (j id n : ℕ) → j < length xs → at xs j ≡ id → IsSome (key_of keys id) → IsKeyedBelow keys xs n → j < n
 place_within keys xs j id n p e some h = either (cases_lt j n) (λ a. a)
     (λ a. let none : key_of keys id ≡ None = ap (key_of keys) (sym e) ∙ h.absent j a p in let b = subst (λ (o : Option _). IsSome o) none some in absurd (cc))
 
 -- an id of the heap has another key
-pub split_rekeyed : {K : Type 0} (keys : List (Option K)) (xs places : List ℕ) (j id n : ℕ) (key : K) → AreInverse xs places → j < length xs → n ≤ length xs → at xs j ≡ id → id < length keys → IsSome (key_of keys id) → IsSplit keys xs n →
-    IsSplit (slice_set keys id (Some key)) xs n
-split_rekeyed keys xs places j id n key inv p le e in' some h =
+pub keyed_again : {K : Type 0} (keys : List (Option K)) (xs places : List ℕ) (j id n : ℕ) (key : K) → AreInverse xs places → j < length xs → n ≤ length xs → at xs j ≡ id → id < length keys → IsSome (key_of keys id) → IsKeyedBelow keys xs n →
+    IsKeyedBelow (slice_set keys id (Some key)) xs n
+keyed_again keys xs places j id n key inv p le e in' some h =
     let new : key_of (slice_set keys id (Some key)) (at xs j) ≡ Some key = ap (key_of (slice_set keys id (Some key))) e ∙ get_or-set_same keys id (Some key) None in' in
-    split_whole (slice_set keys id (Some key)) xs j n (place_within keys xs j id n p e some h) (ap is_some new) (split_but keys xs places j id n (Some key) inv p le e h)
+    keyed_whole (slice_set keys id (Some key)) xs j n (place_within keys xs j id n p e some h) (ap is_some new) (keyed_but keys xs places j id n (Some key) inv p le e h)
