@@ -10,6 +10,8 @@ mod headers;
 #[cfg(test)]
 mod leaves;
 #[cfg(test)]
+mod least_keys;
+#[cfg(test)]
 mod parts;
 #[cfg(test)]
 mod scripts;
