@@ -10,8 +10,6 @@ mod headers;
 #[cfg(test)]
 mod leaves;
 #[cfg(test)]
-mod least_keys;
-#[cfg(test)]
 mod parts;
 #[cfg(test)]
 mod scripts;
