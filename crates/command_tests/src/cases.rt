@@ -7,7 +7,7 @@ use std::alloc::{AllocError, Global};
 /// the text says. The module's page has the steps.
 pub fn failures(alloc: Global, text: &str) -> Result<String, AllocError> {
     let mut found = String::new(alloc);
-    let mut name = "";
+    let mut name = String::new(alloc);
     let mut settings = Settings::new(alloc);
     let mut ran = None;
     for line in text.split('\n') {
@@ -15,7 +15,7 @@ pub fn failures(alloc: Global, text: &str) -> Result<String, AllocError> {
         match step {
             "" => {}
             "case" => {
-                name = rest;
+                name = String::from_str(alloc, rest)?;
                 settings = Settings::new(alloc);
                 ran = None;
             }
