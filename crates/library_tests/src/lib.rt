@@ -2,6 +2,8 @@
 #![tactic(auto)]
 
 #[cfg(test)]
+mod caches;
+#[cfg(test)]
 mod closed_sets;
 #[cfg(test)]
 mod collapses;
@@ -9,6 +11,8 @@ mod collapses;
 mod headers;
 #[cfg(test)]
 mod leaves;
+#[cfg(test)]
+mod loading;
 #[cfg(test)]
 mod parts;
 #[cfg(test)]
