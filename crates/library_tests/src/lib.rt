@@ -2,8 +2,6 @@
 #![tactic(auto)]
 
 #[cfg(test)]
-mod caches;
-#[cfg(test)]
 mod closed_sets;
 #[cfg(test)]
 mod collapses;
@@ -11,8 +9,6 @@ mod collapses;
 mod headers;
 #[cfg(test)]
 mod leaves;
-#[cfg(test)]
-mod loading;
 #[cfg(test)]
 mod parts;
 #[cfg(test)]

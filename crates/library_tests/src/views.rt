@@ -59,10 +59,7 @@ fn push(rt: &impl Abort, records: &mut Vec<Record>, r: Record) -> Result<(), All
 }
 
 /// The graph of the worked square: the cube's diamond, and that of its bottom.
-pub(crate) fn square(
-    rt: &impl Abort,
-    alloc: Global,
-) -> Result<Result<Graph, GraphFault>, AllocError>
+fn square(rt: &impl Abort, alloc: Global) -> Result<Result<Graph, GraphFault>, AllocError>
     ensures { IfOk result (λ made. IfOk made (λ graph. AreSaturated graph.l graph.records)) }
 {
     let mut records = Vec::new(alloc);
@@ -100,7 +97,7 @@ fn check_active(rt: &impl Abort, graph: &Graph, front: &Front, place: usize, wan
 }
 
 /// A view from this point.
-pub(crate) fn view_from(x: i64, y: i64, z: i64, tol: u32) -> View
+fn view_from(x: i64, y: i64, z: i64, tol: u32) -> View
     requires x { unsigned_abs x ≤ 9 }
     requires y { unsigned_abs y ≤ 9 }
     requires z { unsigned_abs z ≤ 100 }

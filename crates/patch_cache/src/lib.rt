@@ -1,6 +1,9 @@
 //! A cache of bounded size, by the centres of diamonds, that gives up the least recently used value.
 #![tactic(auto)]
 
+#[cfg(test)]
+mod tests;
+
 ghost use Rattle.std.specs.Prelude.{◌≡◌, ◌≤◌, ◌-◌, ◌↔◌, [], ◌∷◌, length, take, drop, is_some, option_map, option_copied, false, IfOk, OnOk, OnErr, IsSome, IsNone};
 ghost use Rattle.std.specs.Option.{option_to_list};
 ghost use Rattle.std.specs.Map.{keys_of, lookup};

@@ -1,5 +1,5 @@
 // A cache of two places: what comes to the front, what leaves, and what is found.
-use patch_cache::Cache;
+use crate::Cache;
 use std::alloc::AllocError;
 use std::process::Abort;
 use std::test::Fail;
