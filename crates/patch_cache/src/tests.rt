@@ -17,9 +17,10 @@ fn check_admit(
     x: u32,
     gone: Option<Half>,
 ) -> Result<(), AllocError> {
-    assert!(rt; cache.peek(centre(x)).is_none());
-    assert_eq!(rt; cache.admit(centre(x), 10 * (x % 10))?, gone);
-    assert_eq!(rt; cache.peek(centre(x)).copied(), Some(10 * (x % 10)));
+    let at = centre(x);
+    assert!(rt; cache.peek(at).is_none());
+    assert_eq!(rt; cache.admit(at, 10 * (x % 10))?, gone);
+    assert_eq!(rt; cache.peek(at).copied(), Some(10 * (x % 10)));
     Ok(())
 }
 
