@@ -15,5 +15,6 @@ pub mod SheetCalls
 pub mod PlaceLaw
 pub mod ShopLaw
 pub mod CornerLaw
+pub mod Others
 pub mod ShopCalls
 pub mod WalkLaw
