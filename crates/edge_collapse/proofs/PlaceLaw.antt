@@ -1,17 +1,17 @@
 -- The moves by numbers are those of the definition.
-use Rattle.std.proofs.Common.{◌≡◌, ℕ, zero, suc, ◌+◌, ◌-◌, ◌<◌, ◌≤◌, ◌⊎◌, Bool, true, false, cond, not, ◌&&◌, ◌||◌, List, [], ◌∷◌, ◌++◌, map, take, drop, set, length, get_or, refl, sym, ◌∙◌, ap, ap₂, subst, inl, inr, arith, rules, add-one, zero-add, Some, None, true≢false}
-use Rattle.std.specs.Prelude.{filter, slice_get, slice_index, All, zip, ◌==◌, IsPermutation}
-use Rattle.std.specs.List.{list_any, list_all, range_with_len, AllByRecursion, IsDistinct as IsDistinctBy}
+use Rattle.std.proofs.Common.{◌≡◌, ℕ, zero, suc, ◌+◌, ◌<◌, ◌≤◌, ◌⊎◌, Bool, true, false, not, ◌||◌, List, [], ◌∷◌, ◌++◌, map, take, drop, set, length, get_or, refl, sym, ◌∙◌, ap, ap₂, subst, inl, inr, arith, rules, add-one, zero-add, Some, true≢false}
+use Rattle.std.specs.Prelude.{filter, slice_get, slice_index, All, zip, IsPermutation}
+use Rattle.std.specs.List.{list_all, range_with_len, AllByRecursion, IsDistinct as IsDistinctBy}
 use Rattle.std.specs.List.Sorted.{IsSortedBy}
 use Rattle.std.specs.Ordering.{ordering_then, nat_cmp, is_lt}
 use Rattle.std.proofs.Math.Path.{fun_ext}
 use Rattle.std.proofs.Math.Seq.{drop-cons}
-use Rattle.std.proofs.lemmas.Bool.{cases_Bool, cases_eq, or_cases, or_left, or_right, and_parts, and_from, not-true, not-false, not_from_false, false_from_ne_true}
+use Rattle.std.proofs.lemmas.Bool.{cases_Bool, cases_eq, or_cases, or_left, or_right, and_from, not-true, false_from_ne_true}
 use Rattle.std.proofs.lemmas.List.{length-set, get_or-set_same, get_or-set_other, take_more, take_all, take-append-le, map-append, map-id}
 use Rattle.std.proofs.lemmas.List.Elements.{All-head, All-tail, All-cons, All-nil, filter-append}
 use Rattle.std.proofs.lemmas.List.FromFn.{length-range_with_len, get_or-range_with_len, map-range_with_len_more}
 use Rattle.std.proofs.lemmas.List.Sorted.{IsPermutation-sym, All-permutation}
-use Rattle.std.proofs.lemmas.Map.Keys.{IsDistinct-IsPermutation, IsDistinct-head, IsDistinct-tail, IsDistinct-cons}
+use Rattle.std.proofs.lemmas.Map.Keys.{IsDistinct-IsPermutation}
 use Rattle.tpz_base.specs.declared.shape.Point.{Point}
 use Rattle.tpz_base.specs.declared.shape.Tri.{Tri}
 use Rattle.tpz_base.specs.declared.shape.Move.{Move}
@@ -21,18 +21,16 @@ use Rattle.tpz_base.specs.Meshes.{Mesh, Edge, has_vertex, has_corner, is_whole, 
 use Rattle.tpz_base.specs.Collapses.{image, replaced, replaced_in, collapsed, next_pair, move_to}
 use Rattle.tpz_base.proofs.CutLaw.{Member}
 use Rattle.tpz_base.proofs.Members.{member-filter, filter-member}
-use Rattle.tpz_base.proofs.Elements.{Ascending, IsTransitive, member-map, map-member, has-member, member-has, in_order-member, in_order-ascending, ascending_from}
+use Rattle.tpz_base.proofs.Elements.{Ascending, IsTransitive, member-map, map-member, has-member, in_order-member, in_order-ascending, ascending_from}
 use Rattle.tpz_base.proofs.MovesLaw.{vertex-corner}
-use Rattle.tpz_base.proofs.PointLemmas.{point_eq-true, point_eq_refl, point_eq_sym, eq-point_eq, ne-point_eq, point_eq-false}
+use Rattle.tpz_base.proofs.PointLemmas.{point_eq-true, point_eq_sym, eq-point_eq}
 use Rattle.tpz_base.proofs.PointOrder.{point_lt_tie, point_lt-through, point_lt-same}
 use Rattle.tpz_base.proofs.SimplifyLaw.{next_is_legal, cases_option, corner_is}
 use Rattle.patch_mesh.specs.Slots.{point_at, IsDistinct}
 use Rattle.patch_mesh.proofs.PlaceLaw.{got_point}
 use Rattle.edge_collapse.specs.declared.pair.Pair.{Pair}
-use Rattle.edge_collapse.specs.Least.{IsPair}
 use Rattle.edge_collapse.specs.Places.{ends_at, taken_by, AreLed, moves_between, moves_among, starts_below}
 use Rattle.edge_collapse.proofs.LeastLaw.{legal_pair}
-use Rattle.edge_collapse.proofs.Scans.{read_is}
 
 -- two ascending lists with the same elements are one
 ascending_same : {X : Type 0} (below : X → X → Bool) → IsTransitive below → ((x : X) → below x x ≡ false) → (xs ys : List X) → Ascending below xs → Ascending below ys
@@ -56,6 +54,7 @@ ascending_same {X} below through never (x ∷ xs) (y ∷ ys) h k there back =
     (λ z m. elim (back z (inr m)) [ inl e ↦ absurd (not_first z (subst (λ v. below v z ≡ true) (sym first) (k.0 z m)) e) | inr n ↦ n ]) in
     ap₂ (λ v vs. v ∷ vs) first rest
 
+-- what holds of all elements, at one of them
 all_member : {X : Type 0} (P : X → Type 0) (xs : List X) → All P xs → (x : X) → Member xs x → P x
 all_member P [] h x m = absurd m
 all_member P (y ∷ ys) h x m = elim m [ inl e ↦ subst P e (All-head P y ys h) | inr k ↦ all_member P ys (All-tail P y ys h) x k ]
@@ -69,6 +68,7 @@ permuted_member : {X : Type 0} (xs ys : List X) → IsPermutation xs ys → (x :
 permuted_member xs ys same x m =
     all_member (Member ys) xs (All-permutation (Member ys) ys xs (IsPermutation-sym xs ys same) (member_all (Member ys) ys (λ y n. n))) x m
 
+-- f takes v elsewhere
 abbrev goes : (Point → Point) → Point → Bool
 goes f v = not (point_eq v (f v))
 
@@ -99,6 +99,7 @@ among_ascending f (v ∷ vs) h =
       | inr e ↦ subst (Ascending starts_below) (sym (among_no f v vs e)) (among_ascending f vs h.1)
     ]
 
+-- the moves start at one point
 abbrev same_start : Move → Move → Bool
 same_start m n = point_eq m.from n.from
 
@@ -111,7 +112,7 @@ unfolding IsDistinctBy
 points_differ [] h = tt
 points_differ (v ∷ vs) h = (
   by_place (λ y. point_eq v y ≡ false) vs (λ i l. false_from_ne_true (point_eq v (point_at vs i)) (λ e.
-  let same : 0 ≡ suc i = h.once 0 (suc i) e (omega arith) (omega (arith, l)) in omega (arith, same))),
+      let same : 0 ≡ suc i = h.once 0 (suc i) e (omega arith) (omega (arith, l)) in omega (arith, same))),
   points_differ vs (record { once = λ i j e l k. (let same : suc i ≡ suc j = h.once (suc i) (suc j) e (omega (arith, l)) (omega (arith, k)) in omega (arith, same)) }),
 )
 
@@ -134,6 +135,7 @@ starts_differ f (v ∷ vs) h =
       | inr e ↦ subst (IsDistinctBy same_start) (sym (among_no f v vs e)) (starts_differ f vs h.1)
     ]
 
+-- no move starts below the one before it
 abbrev Falls : List Move → Type 0
 Falls ms = (k : ℕ) (d : Move) → suc k < length ms → starts_below (get_or ms (suc k) d) (get_or ms k d) ≡ false
 

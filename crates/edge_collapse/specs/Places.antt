@@ -31,5 +31,6 @@ moves_between p q = if point_eq p q then [] else record { from = p; to = q } ∷
 abbrev pub moves_among : (Point → Point) → List Point → List Move
 moves_among f vs = map (move_to f) (filter (λ v. not (point_eq v (f v))) vs)
 
+-- m starts at a lesser point than n
 abbrev pub starts_below : Move → Move → Bool
 starts_below m n = point_lt m.from n.from
