@@ -91,18 +91,15 @@ sane_empty vs q n is = record {
   sane = λ c k e. absurd (no_key k (sym (key_of-empty_queue n c) ∙ ap (λ r. entry_of r c) (sym is) ∙ e));
 }
 
+abbrev cost_key : ℕ → ℕ → Point → Point → CollapseKey
+cost_key a b p q = record { sweep = a; length = b; from = p; to = q }
+
 -- a key that is that of its pair
 pub fresh_is : (M : Mesh) (k : Key) → is_fresh M k ≡ true → collapse_key k ≡ key_of M (k.from, k.to)
 fresh_is M k h =
-    let l = and_parts ((made_key M (k.from, k.to)).sweep == k.sweep) ((made_key M (k.from, k.to)).length == k.length) h in
-    same k.sweep (made_key M (k.from, k.to)).sweep k.length (made_key M (k.from, k.to)).length k.from k.to
-    (sym (eqb-true (made_key M (k.from, k.to)).sweep k.sweep l.0)) (sym (eqb-true (made_key M (k.from, k.to)).length k.length l.1))
-  where
-    abbrev the : ℕ → ℕ → Point → Point → CollapseKey
-    the a b p q = record { sweep = a; length = b; from = p; to = q }
-
-    same : (a a' b b' : ℕ) (p q : Point) → a ≡ a' → b ≡ b' → the a b p q ≡ the a' b' p q
-    same a a' b b' p q e f = ap₂ (λ (x y : ℕ). the x y p q) e f
+    let now : Key = made_key M (k.from, k.to) in
+    let l = and_parts (now.sweep == k.sweep) (now.length == k.length) h in
+    ap₂ (λ (x y : ℕ). cost_key x y k.from k.to) (sym (eqb-true now.sweep k.sweep l.0)) (sym (eqb-true now.length k.length l.1))
 
 pub made_fresh : (M : Mesh) (k : Key) → k ≡ made_key M (k.from, k.to) → is_fresh M k ≡ true
 made_fresh M k e =
