@@ -1,5 +1,7 @@
-// Which vertices of a list lie on an edge whose signed sum isn't 0, all at once: the sums of the edges at a vertex stand in a table by the
-// numbers of their other ends, which a walk of the star fills and a second one empties.
+// Which vertices of a list lie on an edge whose signed sum isn't 0, for all vertices at once.
+//
+// For each vertex a walk of its star adds up the signed sums of the edges from it, in a table by the numbers of the other ends; a second walk
+// asks whether one isn't 0, and a third takes away what the first one added.
 ghost use Rattle.std.specs.Prelude.{◌≡◌, ◌≤◌, ◌<◌, ◌+ℤ◌, ◌||◌, not, length, map, pos, slice_set, unsigned_abs, vec_len, vec_capacity};
 ghost use Rattle.std.specs.List.{slice_index_or};
 ghost use Rattle.std.specs.Ordering.{int_eq};
@@ -21,7 +23,7 @@ fn shift(balance: &mut Vec<i32>, x: u32, by: i32)
     balance[x as usize] += by;
 }
 
-/// Adds what the triangles at `p` add to the sums of the edges from it.
+/// Adds each triangle at `p`, the vertex with the number `v`: an edge from `p` to its next corner, and one from its last corner to `p`.
 fn add_star(list: &Workshop, balance: &mut Vec<i32>, v: u32, p: Point)
     requires vertex { v < length list.now.vertices }
     requires at { p ≡ point_at list.now.vertices v }
@@ -37,7 +39,7 @@ fn add_star(list: &Workshop, balance: &mut Vec<i32>, v: u32, p: Point)
     }
 }
 
-/// Takes it away again.
+/// Takes away what `add_star` added.
 fn take_star(list: &Workshop, balance: &mut Vec<i32>, v: u32, p: Point)
     requires vertex { v < length list.now.vertices }
     requires at { p ≡ point_at list.now.vertices v }
@@ -55,19 +57,19 @@ fn take_star(list: &Workshop, balance: &mut Vec<i32>, v: u32, p: Point)
 }
 
 /// Whether one of two sums isn't 0.
-fn is_open(balance: &Vec<i32>, next: u32, last: u32) -> bool
-    requires next { next < length balance.now.items }
-    requires last { last < length balance.now.items }
-    ensures { result ≡ not (int_eq (balance_at balance.now.items next) (pos 0)) || not (int_eq (balance_at balance.now.items last) (pos 0)) }
+fn is_open(balance: &[i32], next: u32, last: u32) -> bool
+    requires next { next < length balance.now }
+    requires last { last < length balance.now }
+    ensures { result ≡ not (int_eq (balance_at balance.now next) (pos 0)) || not (int_eq (balance_at balance.now last) (pos 0)) }
 {
     balance[next as usize] != 0 || balance[last as usize] != 0
 }
 
 /// Whether a triangle at `p` has an edge with the end `p` and a sum that isn't 0.
-fn has_open(list: &Workshop, balance: &Vec<i32>, v: u32, p: Point) -> bool
+fn has_open(list: &Workshop, balance: &[i32], v: u32, p: Point) -> bool
     requires vertex { v < length list.now.vertices }
     requires at { p ≡ point_at list.now.vertices v }
-    requires sums { balance.now.items ≡ sums_at list.now.mesh p list.now.vertices }
+    requires sums { balance.now ≡ sums_at list.now.mesh p list.now.vertices }
     ensures { result ≡ is_outer list.now.mesh p }
 {
     let mut walk = list.walk_at(v);

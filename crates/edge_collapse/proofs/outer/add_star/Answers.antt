@@ -1,5 +1,5 @@
 -- One more triangle.
-use Rattle.std.proofs.Common.{◌≡◌, ◌≤◌, ◌<◌, ℕ, ◌+◌, take, length, unsigned_abs, pos, arith, sym, ◌∙◌, ap}
+use Rattle.std.proofs.Common.{◌≤◌, ℕ, ◌+◌, take, length, unsigned_abs, pos, arith, sym, ◌∙◌, ap}
 use Rattle.std.proofs.lemmas.List.{length-take}
 use Rattle.std.specs.Prelude.{filter}
 use Rattle.tpz_base.specs.Meshes.{has_corner}

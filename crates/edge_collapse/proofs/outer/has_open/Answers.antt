@@ -1,5 +1,5 @@
 -- One more triangle.
-use Rattle.std.proofs.Common.{◌≡◌, sym, ◌∙◌}
+use Rattle.std.proofs.Common.{sym, ◌∙◌}
 use Rattle.std.specs.Prelude.{filter}
 use Rattle.tpz_base.specs.Meshes.{has_corner}
 use Rattle.patch_mesh.specs.Shops.{opens_at}
@@ -13,7 +13,7 @@ returns-then-is_open c =
     let M = c.args.list.now.mesh in
     let t = c.in-Some.k.tri in
     let at = star_corner c.args.p M c.loop-k.walk.place t (sym c.in-Some.ensures.tri) in
-    let told = opens_read c.args.list.now.vertices c.args.balance.now.items M c.args.p t c.in-Some.k.next c.in-Some.k.last c.in-Some.ensures.plain.whole at
+    let told = opens_read c.args.list.now.vertices c.args.balance.now M c.args.p t c.in-Some.k.next c.in-Some.k.last c.in-Some.ensures.plain.whole at
     c.requires.sums c.in-Some.ensures.next_within c.in-Some.ensures.last_within c.in-Some.ensures.next c.in-Some.ensures.last ∙ sym c.is_open.ensures in
     sym (outer_by_star M c.args.p ∙ any_found (opens_at M c.args.p) (filter (has_corner c.args.p) M) c.loop-k.walk.place t (sym c.in-Some.ensures.tri) (told ∙ c.if-is_open.true))
 
@@ -22,7 +22,7 @@ loop-k-preserved c =
     let M = c.args.list.now.mesh in
     let t = c.in-Some.k.tri in
     let at = star_corner c.args.p M c.loop-k.walk.place t (sym c.in-Some.ensures.tri) in
-    let told = opens_read c.args.list.now.vertices c.args.balance.now.items M c.args.p t c.in-Some.k.next c.in-Some.k.last c.in-Some.ensures.plain.whole at
+    let told = opens_read c.args.list.now.vertices c.args.balance.now M c.args.p t c.in-Some.k.next c.in-Some.k.last c.in-Some.ensures.plain.whole at
     c.requires.sums c.in-Some.ensures.next_within c.in-Some.ensures.last_within c.in-Some.ensures.next c.in-Some.ensures.last ∙ sym c.is_open.ensures in
     record {
       walk = c.step.ensures.walk;

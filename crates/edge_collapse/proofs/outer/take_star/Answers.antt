@@ -1,5 +1,5 @@
 -- One triangle less.
-use Rattle.std.proofs.Common.{◌≡◌, ◌≤◌, ◌<◌, ℕ, ◌+◌, drop, length, unsigned_abs, negsuc, arith, sym, ◌∙◌, ap, subst}
+use Rattle.std.proofs.Common.{◌≤◌, ℕ, ◌+◌, drop, length, unsigned_abs, negsuc, arith, sym, ◌∙◌, ap, subst}
 use Rattle.std.proofs.lemmas.List.{length-drop}
 use Rattle.std.specs.Prelude.{filter}
 use Rattle.tpz_base.specs.Meshes.{has_corner}
