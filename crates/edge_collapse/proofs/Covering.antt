@@ -106,6 +106,9 @@ made_fresh M k e =
     and_from ((made_key M (k.from, k.to)).sweep == k.sweep) ((made_key M (k.from, k.to)).length == k.length)
     (eq-eqb (made_key M (k.from, k.to)).sweep k.sweep (ap (λ (x : Key). x.sweep) (sym e))) (eq-eqb (made_key M (k.from, k.to)).length k.length (ap (λ (x : Key). x.length) (sym e)))
 
+abbrev one_of : Bool → ℕ
+one_of b = cond b 1 0
+
 -- how many entries aren't due, where one is set
 pub undue_more : (M : Mesh) (q : List (Option Key)) (i : ℕ) (o : Option Key) → i < length q
     → undue M (slice_set q i o) + cond (is_undue M (entry_of q i)) 1 0 ≡ undue M q + cond (is_undue M o) 1 0
@@ -118,7 +121,7 @@ pub undue_least : (M : Mesh) (q : List (Option Key)) (i : ℕ) (o : Option Key) 
 undue_least M q i o h due =
     let a = undue_more M q i o h in
     let b = undue_more M q i None h in
-    let n : cond (is_undue M o) 1 0 ≡ 0 = ap (λ b. cond b 1 0) due in
+    let n : one_of (is_undue M o) ≡ 0 = ap one_of due in
     omega (arith, a, b, n)
 
 pub undue_none : (M : Mesh) (o : Option Key) → IfSome o (λ k. is_due M k ≡ true) → is_undue M o ≡ false
@@ -130,7 +133,7 @@ pub undue_fewer : (M : Mesh) (q : List (Option Key)) (i : ℕ) (k : Key) → ent
 undue_fewer M q i k at off =
     let h : i < length q = below_capacity q i (subst (λ o. IsSome o) (sym at) refl) in
     let a = undue_more M q i None h in
-    let n : cond (is_undue M (entry_of q i)) 1 0 ≡ 1 = ap (λ o. cond (is_undue M o) 1 0) at ∙ ap (λ b. cond (not b) 1 0) off in
+    let n : one_of (is_undue M (entry_of q i)) ≡ 1 = ap (λ o. one_of (is_undue M o)) at ∙ ap (λ b. one_of (not b)) off in
     omega (arith, a, n)
 
 -- a vertex has a number

@@ -1,6 +1,6 @@
 -- What a search keeps from call to call.
-use Rattle.std.proofs.Common.{◌≡◌, ℕ, zero, suc, ◌+◌, ◌<◌, ◌≤◌, true, List, [], ◌∷◌, map, drop, length, refl, sym, ◌∙◌, ap, ap₂, subst, arith, add-one, Option, Some, None, vec_capacity}
-use Rattle.std.proofs.lemmas.List.{length-map}
+use Rattle.std.proofs.Common.{◌≡◌, ℕ, zero, suc, ◌+◌, ◌<◌, ◌≤◌, true, List, [], ◌∷◌, map, drop, length, refl, sym, ◌∙◌, ap, ap₂, subst, arith, add-one, Option, Some, None, vec_capacity, get_or}
+use Rattle.std.proofs.lemmas.List.{length-map, get_or_default}
 use Rattle.std.specs.Prelude.{slice_set, flat_map, IsSome, All, slice_index}
 use Rattle.std.specs.List.{list_all}
 use Rattle.std.proofs.Math.ListN.{length-set}
@@ -92,4 +92,11 @@ point_mapped vs (n ∷ ns) (suc i) h = point_mapped vs ns i (omega arith)
 -- the points of the numbers from an index on
 pub near_is : (vs : List Point) (ns : List ℕ) (i : ℕ) → i < length ns → drop i (map (point_at vs) ns) ≡ point_at vs (slice_index ns i) ∷ drop (i + 1) (map (point_at vs) ns)
 near_is vs ns i h =
-    rest_is (map (point_at vs) ns) i (omega (arith, length-map (point_at vs) ns)) ∙ ap (λ p. p ∷ drop (i + 1) (map (point_at vs) ns)) (point_mapped vs ns i h)
+    rest_is (map (point_at vs) ns) i (omega (arith, length-map ns (point_at vs))) ∙ ap (λ p. p ∷ drop (i + 1) (map (point_at vs) ns)) (point_mapped vs ns i h)
+
+pub same_le : (n : ℕ) → n ≤ n
+same_le n = omega arith
+
+-- what an index reads
+pub index_is : (xs : List ℕ) (i x : ℕ) → i < length xs → x ≡ get_or xs i x → slice_index xs i ≡ x
+index_is xs i x h e = get_or_default xs i 0 x h ∙ sym e
