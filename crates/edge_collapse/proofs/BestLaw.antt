@@ -1,5 +1,5 @@
 -- One more corner of a star is covered, and where all are, each legal pair is.
-use Rattle.std.proofs.Common.{◌≡◌, ℕ, ◌+◌, ◌<◌, ◌≤◌, Bool, true, false, not, ◌&&◌, ◌||◌, List, [], ◌∷◌, map, take, get_or, length, refl, sym, ◌∙◌, ap, inl, inr, true≢false, Option}
+use Rattle.std.proofs.Common.{◌≡◌, ℕ, ◌+◌, ◌<◌, Bool, true, not, ◌||◌, List, [], ◌∷◌, map, take, get_or, length, refl, sym, ◌∙◌, ap, inl, inr, true≢false, Option}
 use Rattle.std.specs.Prelude.{filter, All}
 use Rattle.std.specs.List.{list_all}
 use Rattle.std.proofs.lemmas.Bool.{cases_Bool, and_from, or_left, or_right, or_cases, not_from_false, not-true}

@@ -1,15 +1,15 @@
 -- Entries that cover the legal pairs of their vertices: what changes as one is set.
-use Rattle.std.proofs.Common.{◌≡◌, ◌≢◌, ℕ, zero, suc, ◌+◌, ◌<◌, ◌≤◌, Bool, true, false, cond, not, ◌&&◌, ◌||◌, List, [], ◌∷◌, map, refl, sym, ◌∙◌, ap, ap₂, subst, inl, inr, true≢false, arith, Option, Some, None, length}
-use Rattle.std.specs.Prelude.{slice_set, slice_index_or, ◌==◌, IsSome}
+use Rattle.std.proofs.Common.{◌≡◌, ◌≢◌, ℕ, zero, suc, ◌+◌, ◌<◌, ◌≤◌, Bool, true, false, cond, not, ◌||◌, List, [], ◌∷◌, refl, sym, ◌∙◌, ap, ap₂, subst, inl, inr, true≢false, arith, Option, Some, None, length}
+use Rattle.std.specs.Prelude.{slice_set, ◌==◌, IsSome}
 use Rattle.std.specs.Option.{IfSome}
-use Rattle.std.proofs.lemmas.Bool.{cases_Bool, cases_eq, and_parts, and_from, not-true, not_from_false, or_from, eqb-true, eq-eqb, false_from_ne_true}
+use Rattle.std.proofs.lemmas.Bool.{cases_Bool, cases_eq, and_parts, and_from, not-true, or_from, eqb-true, eq-eqb, false_from_ne_true}
 use Rattle.std.proofs.lemmas.List.{get_or-set_same, get_or-set_other}
 use Rattle.tpz_base.specs.declared.shape.Point.{Point}
 use Rattle.tpz_base.specs.Lists.{has}
 use Rattle.tpz_base.specs.Points.{point_eq}
-use Rattle.tpz_base.specs.Meshes.{Mesh, Edge, is_outer, has_vertex}
+use Rattle.tpz_base.specs.Meshes.{Mesh, is_outer, has_vertex}
 use Rattle.tpz_base.specs.Collapses.{CollapseKey, is_legal, least_pair, key_of, key_lt}
-use Rattle.tpz_base.proofs.PointLemmas.{point_eq-true, point_eq_refl, point_eq_sym, eq-point_eq}
+use Rattle.tpz_base.proofs.PointLemmas.{point_eq-true, point_eq_refl}
 use Rattle.tpz_base.proofs.FirstLegal.{first_is_least, none_is_least}
 use Rattle.collapse_queue.specs.Queues.{key_of as entry_of, empty_queue, comes_before}
 use Rattle.collapse_queue.proofs.QueueLaw.{key_of-empty_queue, below_capacity}

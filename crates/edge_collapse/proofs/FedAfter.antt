@@ -1,15 +1,15 @@
 -- A collapse leaves the entries right but for those of the points that shared a triangle with the vertex that moved, which are those that followed it.
-use Rattle.std.proofs.Common.{◌≡◌, ℕ, ◌<◌, true, false, not, ◌&&◌, ◌||◌, List, [], ◌∷◌, map, refl, sym, ◌∙◌, ap, subst, inl, inr, true≢false, Option, length}
-use Rattle.std.specs.Prelude.{flat_map, filter}
+use Rattle.std.proofs.Common.{◌≡◌, true, false, not, ◌&&◌, List, [], ◌∷◌, map, refl, sym, ◌∙◌, ap, inl, inr, true≢false, Option}
+use Rattle.std.specs.Prelude.{flat_map}
 use Rattle.std.specs.List.{list_any, list_all}
-use Rattle.std.proofs.lemmas.Bool.{cases_Bool, and_parts, and_from, and_right, not-true, or_cases, or_left, or_right, or_from, false_from_ne_true}
+use Rattle.std.proofs.lemmas.Bool.{cases_Bool, and_parts, and_from, and_right, not-true, or_cases, or_left, or_from, false_from_ne_true}
 use Rattle.tpz_base.specs.declared.shape.Point.{Point}
 use Rattle.tpz_base.specs.declared.shape.Tri.{Tri}
 use Rattle.tpz_base.specs.Lists.{has}
 use Rattle.tpz_base.specs.Points.{point_eq}
 use Rattle.tpz_base.specs.Meshes.{Mesh, edge_eq, is_whole, is_outer, has_corner, has_vertex}
-use Rattle.tpz_base.specs.Collapses.{image, replaced, replaced_in, is_legal, are_neighbours, key_of}
-use Rattle.tpz_base.proofs.PointLemmas.{point_eq-true, point_eq_sym, eq-point_eq, point_eq_refl}
+use Rattle.tpz_base.specs.Collapses.{image, replaced, replaced_in, is_legal, are_neighbours}
+use Rattle.tpz_base.proofs.PointLemmas.{point_eq-true, point_eq_sym, eq-point_eq}
 use Rattle.tpz_base.proofs.ListTests.{list_any-flat_map, list_any-filter_map}
 use Rattle.tpz_base.proofs.BorderLaw.{outer_kept}
 use Rattle.tpz_base.proofs.Locality.{IsApart, key_kept}
@@ -17,7 +17,7 @@ use Rattle.tpz_base.proofs.StillLegal.{found, LeavesStar, legal_before}
 use Rattle.tpz_base.proofs.FirstLegal.{edge_of_joined, turns}
 use Rattle.patch_mesh.specs.Slots.{point_at}
 use Rattle.edge_collapse.specs.declared.keys.Key.{Key}
-use Rattle.edge_collapse.specs.Feeds.{is_covered, Covers, IsFedBut, follower}
+use Rattle.edge_collapse.specs.Feeds.{is_covered, IsFedBut, follower}
 use Rattle.edge_collapse.proofs.LeastLaw.{apart_ab, apart_bc, apart_ca, legal_pair}
 use Rattle.collapse_queue.specs.Queues.{key_of as entry_of}
 

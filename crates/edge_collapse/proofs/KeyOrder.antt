@@ -1,11 +1,11 @@
 -- The order of keys: it is strict, it goes through, and a key between two others is on one side of each. The order of the code is this one.
 use Rattle.std.proofs.Common.{◌≡◌, ℕ, Bool, true, false, not, ◌&&◌, ◌||◌, sym, ◌∙◌, ap, inl, inr, ◌⊎◌, true≢false, arith, Option, Some, None, refl}
 use Rattle.std.specs.Prelude.{nat_lt, ◌==◌}
-use Rattle.std.proofs.lemmas.Bool.{cases_Bool, or_cases, or_left, or_right, or_from, or_parts, and_parts, and_from, and_right, ltb-true, ltb-false, le-ltb, lt-ltb, eq-eqb, eqb-true, not-true, not_from_false, false_from_ne_true}
+use Rattle.std.proofs.lemmas.Bool.{cases_Bool, or_cases, or_left, or_right, or_from, and_parts, and_from, and_right, ltb-true, ltb-false, le-ltb, lt-ltb, eq-eqb, eqb-true, not-true, not_from_false, false_from_ne_true}
 use Rattle.tpz_base.specs.declared.shape.Point.{Point}
 use Rattle.tpz_base.specs.Points.{point_eq, point_lt}
 use Rattle.tpz_base.specs.Collapses.{CollapseKey, key_lt}
-use Rattle.tpz_base.proofs.PointLemmas.{point_eq-true, eq-point_eq, point_eq_refl}
+use Rattle.tpz_base.proofs.PointLemmas.{point_eq-true, eq-point_eq}
 use Rattle.tpz_base.proofs.PointOrder.{through, same_not, point_lt-through, point_lt-same, point_lt_tie}
 use Rattle.collapse_queue.specs.Queues.{comes_before}
 use Rattle.edge_collapse.specs.declared.keys.Key.{Key}

@@ -1,9 +1,8 @@
 -- What a search keeps from call to call.
 use Rattle.std.proofs.Common.{◌≡◌, ℕ, zero, suc, ◌+◌, ◌<◌, ◌≤◌, true, List, [], ◌∷◌, map, drop, length, refl, sym, ◌∙◌, ap, ap₂, subst, arith, add-one, Option, Some, None, vec_capacity, get_or}
 use Rattle.std.proofs.lemmas.List.{length-map, get_or_default}
-use Rattle.std.specs.Prelude.{slice_set, flat_map, IsSome, All, slice_index}
+use Rattle.std.specs.Prelude.{slice_set, flat_map, IsSome, slice_index}
 use Rattle.std.specs.List.{list_all}
-use Rattle.std.proofs.Math.ListN.{length-set}
 use Rattle.tpz_base.specs.declared.shape.Point.{Point}
 use Rattle.tpz_base.specs.Lists.{has}
 use Rattle.tpz_base.specs.Points.{point_eq}

@@ -1,8 +1,8 @@
 -- The triangles at a vertex: the corner behind it, their sweeps, and what is said of all of them.
-use Rattle.std.proofs.Common.{◌≡◌, ℕ, zero, suc, Bool, true, false, not, ◌&&◌, ◌||◌, List, [], ◌∷◌, ◌++◌, map, refl, sym, ◌∙◌, ap, ap₂, subst, inl, inr, true≢false, Some, get_or, drop, add-one, length, ◌<◌, ◌+◌, arith}
-use Rattle.std.specs.Prelude.{filter, flat_map, sum_by, slice_get, unsigned_abs}
-use Rattle.std.specs.List.{list_any, list_all}
-use Rattle.std.proofs.lemmas.Bool.{cases_Bool, and_parts, or_cases, or_left, or_right, or_parts, not-true, false_from_ne_true}
+use Rattle.std.proofs.Common.{◌≡◌, ℕ, zero, suc, Bool, true, false, ◌&&◌, ◌||◌, List, [], ◌∷◌, map, refl, sym, ◌∙◌, ap, ap₂, subst, inl, inr, true≢false, Some}
+use Rattle.std.specs.Prelude.{filter, flat_map, sum_by, slice_get}
+use Rattle.std.specs.List.{list_all}
+use Rattle.std.proofs.lemmas.Bool.{cases_Bool, and_parts, or_cases, or_left, or_parts, false_from_ne_true}
 use Rattle.tpz_base.specs.declared.shape.Point.{Point}
 use Rattle.tpz_base.specs.declared.shape.Tri.{Tri}
 use Rattle.tpz_base.specs.Lists.{has}
@@ -10,7 +10,7 @@ use Rattle.tpz_base.specs.Points.{point_eq, vector, cross}
 use Rattle.tpz_base.specs.Meshes.{Mesh, is_whole, has_corner, has_vertex}
 use Rattle.tpz_base.specs.Collapses.{opposite_edge, image}
 use Rattle.tpz_base.specs.Reach.{sweep_at}
-use Rattle.tpz_base.proofs.PointLemmas.{point_eq-true, point_eq_sym, eq-point_eq}
+use Rattle.tpz_base.proofs.PointLemmas.{point_eq-true, eq-point_eq}
 use Rattle.tpz_base.proofs.SumLemmas.{sum_by-map}
 use Rattle.edge_collapse.specs.Sweeps.{span_of, star_face, face_sweep}
 use Rattle.edge_collapse.specs.declared.star.StarFace.{StarFace}

@@ -1,5 +1,5 @@
 -- A key that comes before the best one covers what that one covers, and itself.
-use Rattle.std.proofs.Common.{◌≡◌, sym, ◌∙◌}
+use Rattle.std.proofs.Common.{sym, ◌∙◌}
 use Rattle.edge_collapse.proofs.KeyOrder.{cover_first}
 use Rattle.edge_collapse.proofs.best.better.Goals as goal
 

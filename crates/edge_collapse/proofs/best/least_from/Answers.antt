@@ -1,5 +1,5 @@
 -- One more corner of the star; all of them are covered at the end.
-use Rattle.std.proofs.Common.{arith, ◌≡◌, true, sym, ◌∙◌, ap, take}
+use Rattle.std.proofs.Common.{arith, sym, ◌∙◌, ap}
 use Rattle.std.specs.List.{list_all}
 use Rattle.std.proofs.lemmas.List.{take_all}
 use Rattle.edge_collapse.specs.declared.star.StarFace.{StarFace}

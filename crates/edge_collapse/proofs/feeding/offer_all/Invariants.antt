@@ -1,5 +1,5 @@
 -- Only the vertices from the number on lack entries.
-use Rattle.std.proofs.Common.{◌≡◌, drop}
+use Rattle.std.proofs.Common.{drop}
 use Rattle.tpz_base.specs.Lists.{has}
 use Rattle.tpz_base.specs.Points.{point_eq}
 use Rattle.edge_collapse.specs.Feeds.{IsFedBut, AreSane}

@@ -1,5 +1,5 @@
 -- The two other corners tell.
-use Rattle.std.proofs.Common.{◌≡◌, Bool, ◌&&◌, sym, ◌∙◌, ap, ap₂}
+use Rattle.std.proofs.Common.{◌&&◌, sym, ◌∙◌, ap}
 use Rattle.tpz_base.specs.Collapses.{opposite_edge}
 use Rattle.edge_collapse.specs.Pairs.{stays_vertex}
 use Rattle.edge_collapse.proofs.StarLaw.{others_stay}

@@ -1,14 +1,12 @@
 -- One more triangle.
-use Rattle.std.proofs.Common.{arith, ◌≡◌, ◌++◌, ◌∷◌, [], ℕ, take, map, List, sym, ◌∙◌, ap, ap₂, subst, refl}
+use Rattle.std.proofs.Common.{arith, ◌≡◌, ◌++◌, ◌∷◌, [], ℕ, take, map, List, sym, ◌∙◌, ap, ap₂, subst}
 use Rattle.std.specs.Prelude.{filter, All}
 use Rattle.std.proofs.lemmas.List.Elements.{All-push}
 use Rattle.std.proofs.lemmas.List.{map-append}
-use Rattle.tpz_base.specs.declared.shape.Point.{Point}
 use Rattle.tpz_base.specs.Points.{point_eq}
 use Rattle.tpz_base.specs.Meshes.{has_corner}
 use Rattle.tpz_base.specs.Collapses.{opposite_edge}
 use Rattle.tpz_base.specs.Reach.{IsNear}
-use Rattle.patch_mesh.specs.Slots.{point_at}
 use Rattle.patch_mesh.proofs.PlaceLaw.{got_point}
 use Rattle.patch_mesh.proofs.ShopLaw.{near_at}
 use Rattle.patch_mesh.proofs.WalkLaw.{all_taken, taken_next, filter_most}
