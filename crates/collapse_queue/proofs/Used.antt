@@ -5,7 +5,7 @@ use Rattle.std.proofs.lemmas.List.{length-append, length-replicate, length-set}
 use Rattle.std.specs.declared.cmp.Ordering.{Ordering}
 use Rattle.std.specs.Prelude.{slice_set}
 use Rattle.collapse_queue.specs.Queues.{key_of, empty_queue, IsLeast}
-use Rattle.collapse_queue.specs.Heaps.{is_before, parent_of, padded, AreInverse, IsKeyedBelow, IsHeap, IsQueue, IsHeld}
+use Rattle.collapse_queue.specs.Heaps.{is_before, parent_of, padded, IsKeyedBelow, IsHeap, IsQueue, IsHeld}
 use Rattle.collapse_queue.proofs.Places.{at, either}
 use Rattle.collapse_queue.proofs.QueueLaw.{key_of-empty_queue, empty_by_keys}
 
