@@ -11,6 +11,7 @@ pub mod StarsAfter
 pub mod SheetLaw
 pub mod SheetPush
 pub mod SheetMove
+pub mod NearLaw
 pub mod SheetCalls
 pub mod PlaceLaw
 pub mod ShopLaw
