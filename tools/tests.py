@@ -116,7 +116,7 @@ class ToAscii(Case):
             self.assertIn("\n0.1234567890123456789 -6.167906e-18 1E3\n", file.read())
 
     def test_floats_keep_nine_digits_and_doubles_all(self):
-        points = [(0.1, 1 / 3, 1234.5678)] + POINTS[1:]
+        points = [(0.1, 1 / 3, 234.5678)] + POINTS[1:]
         single = [tuple(struct.unpack("<3f", struct.pack("<3f", *p))) for p in points]
         self.assertEqual(self.converted(head("binary_little_endian", "double") + rows("<", "double", points=points))[0], points)
         found = self.converted(head("binary_little_endian") + rows("<", points=points))[0]
