@@ -88,7 +88,7 @@ def tolerance(pixels, height, fov):
 
 def add_screen(parser):
     """The options that say what a pixel is."""
-    parser.add_argument("--pixels", type=positive, default=2, metavar="P", help="tolerance in pixels (2)")
+    parser.add_argument("--pixels", type=positive, default=30, metavar="P", help="tolerance in pixels (30; docs/EYES.md says why)")
     parser.add_argument("--height", type=positive, default=1080, metavar="H", help="height of the picture in pixels (1080)")
     parser.add_argument("--fov", type=angle, default=60, metavar="DEGREES", help="vertical field of view (60)")
 
