@@ -288,6 +288,33 @@ class Others(Case):
             self.assertIn("It isn't proved", said.replace("\n", " "))
 
 
+class Script(unittest.TestCase):
+    """./tpz before anything is built."""
+
+    def run_tpz(self, *words):
+        run = subprocess.run([os.path.join(HERE, "..", "tpz"), *words], capture_output=True, text=True)
+        return run.returncode, run.stdout, run.stderr
+
+    def test_help_is_printed_without_a_build(self):
+        status, page, said = self.run_tpz("--help")
+        self.assertEqual((status, said), (0, ""))
+        for command in ("build", "replay", "tour", "finest", "info", "gen"):
+            self.assertIn("\n%s " % command, page)
+        self.assertEqual(self.run_tpz(), (2, page, ""))
+
+    def test_version_says_commit_and_logic(self):
+        status, said, _ = self.run_tpz("--version")
+        self.assertEqual(status, 0)
+        with open(os.path.join(HERE, "..", "docs", "PROMISES.md")) as file:
+            self.assertIn(said.split("\n")[1], file.read())
+
+    def test_the_manual_has_each_option(self):
+        with open(os.path.join(HERE, "..", "docs", "tpz.1")) as file:
+            page = file.read()
+        for option in ("digits", "cap", "budget", "tries", "size", "help", "version", "man", "build", "clean"):
+            self.assertIn("-" + option, page)
+
+
 def pixels(path):
     """Width, height and the bytes of a picture whose rows have filter 1."""
     with open(path, "rb") as file:
