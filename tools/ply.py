@@ -527,6 +527,19 @@ def load(mesh):
     return columns, tris
 
 
+def polygon_lines(lists, corners):
+    """The lines of some polygons, whose corners stand one after another as numbers."""
+    if all(len(row) == 3 for row in lists):
+        return b"3 %d %d %d\n" * len(lists) % tuple(corners)
+    lines = []
+    at = 0
+    for row in lists:
+        n = len(row)
+        lines.append((b"%d" + b" %d" * n + b"\n") % (n, *corners[at : at + n]))
+        at += n
+    return b"".join(lines)
+
+
 def fans(lists):
     """The triangles of polygons."""
     for corners in lists:
