@@ -4,7 +4,8 @@
     bench/shapes.py terrain 320 terrain.ply     2 * 320 * 320 triangles, 3.2 km wide, in metres, at UTM coordinates
     bench/shapes.py rock 130 rock.ply       12 * 130 * 130 triangles, closed, 2.2 m high
 
-tools/to_ascii makes an input of them. The same words make the same file.
+tools/to_ascii makes an input of them. The same words make the same file: heights are rounded to millimetres, points of a
+rock to micrometres.
 """
 
 import math
@@ -35,7 +36,7 @@ def terrain(n):
     for i in range(n + 1):
         for j in range(n + 1):
             x, y = i / n, j / n
-            points.append((431200.25 + 3200 * x, 5412300.5 + 3200 * y, 412 + 420 * height(parts, x, y, 0)))
+            points.append((431200.25 + 3200 * x, 5412300.5 + 3200 * y, round(412 + 420 * height(parts, x, y, 0), 3)))
     tris = []
     for i in range(n):
         for j in range(n):
@@ -57,7 +58,7 @@ def rock(n):
             length = math.sqrt(x * x + y * y + z * z)
             x, y, z = x / length, y / length, z / length
             r = 0.55 * (1 + 0.5 * height(parts, x, y, z))
-            points.append((r * x, r * y, 1.6 * r * z))
+            points.append(tuple(round(c, 6) for c in (r * x, r * y, 1.6 * r * z)))
         return numbers[corner]
 
     tris = []
