@@ -26,9 +26,9 @@ prepare() {
     fi
     proved=${PROVED:-}
     if [ -z "$proved" ]; then
-        # With no words the program only says how it is used. A first build takes minutes.
+        # A first build takes long.
         echo "$script: building the proved program where need be" >&2
-        "$here/../tpz" 2>/dev/null || [ $? -eq 2 ] || stop "the proved program couldn't be built: try ./tpz"
+        "$here/../tpz" --build || stop "the proved program couldn't be built: try ./tpz --build"
         proved=$here/../crates/tpz/out/tpz
     fi
     mkdir -p "$scratch/proved" "$scratch/plain"

@@ -3,22 +3,25 @@ ghost use Rattle.std.specs.Prelude.{◌≡◌};
 ghost use Rattle.std.specs.declared.option.Option.TheVariants.{None};
 ghost use Rattle.tpz_io.specs.Causes.{HasCause, one_more};
 
+use crate::progress::Progress;
 use std::fs::{File, OpenOptions};
 use std::io::ErrorKind;
 use std::os::unix::fs::FileExt;
-use std::rt::Files;
+use std::rt::{Clock, Files};
 use tpz_io::{Blob, Failed};
 
 /// A file that is opened for reading until the first write, and for both from then on. One that isn't
-/// there has no bytes, and is made by the first write. It tells nothing of what is in it.
+/// there has no bytes, and is made by the first write. What was written is shown as progress. It tells nothing of
+/// what is in it.
 #[derive(Drop)]
-pub struct FileBlob<R: Files<File = File> + Drop> {
+pub struct FileBlob<R: Files<File = File> + Clock + Eprint + Drop> {
     rt: R,
     path: String,
     file: Option<File>,
     is_writable: bool,
     reads: u64,
     faults: u64,
+    progress: Progress<R>,
 }
 
 // Fills the buffer from a place of a file. None where it ends before, or a read fails.
@@ -55,9 +58,9 @@ fn write_all(file: &File, at: u64, bytes: &[u8]) -> Option<()> {
     None
 }
 
-impl<R: Files<File = File> + Drop> FileBlob<R> {
+impl<R: Files<File = File> + Clock + Eprint + Drop> FileBlob<R> {
     /// A blob of the file at this path. No call was made.
-    pub fn new(rt: R, path: String) -> Self
+    pub fn new(rt: R, path: String, progress: Progress<R>) -> Self
         ensures faults { ⟦<FileBlob<R> as Blob>⟧.faults result ≡ 0 }
         ensures reads { ⟦<FileBlob<R> as Blob>⟧.reads result ≡ 0 }
     {
@@ -68,6 +71,7 @@ impl<R: Files<File = File> + Drop> FileBlob<R> {
             is_writable: false,
             reads: 0,
             faults: 0,
+            progress,
         }
     }
 
@@ -124,7 +128,9 @@ impl<R: Files<File = File> + Drop> FileBlob<R> {
     {
         self.open_to_write()?;
         let file = self.file.as_ref()?;
-        write_all(file, at, bytes)
+        write_all(file, at, bytes)?;
+        self.progress.add(bytes.len());
+        Some(())
     }
 
     // Where nothing was written, there is nothing to bring to the disk.
@@ -156,7 +162,7 @@ impl<R: Files<File = File> + Drop> FileBlob<R> {
     }
 }
 
-impl<R: Files<File = File> + Drop> Blob for FileBlob<R> {
+impl<R: Files<File = File> + Clock + Eprint + Drop> Blob for FileBlob<R> {
     ghost held = { λ _. None };
 
     ghost faults = { λ b. b.faults };
@@ -195,7 +201,12 @@ mod tests {
 
     #[test]
     fn a_file_is_made_by_the_first_write(rt: HostRuntime) -> Result<(), Fail> {
-        let mut blob = FileBlob::new(rt.clone()?, String::from_str(rt.alloc(), "blob.tmp")?);
+        let progress = Progress::new(rt.clone()?, "blob.tmp", false);
+        let mut blob = FileBlob::new(
+            rt.clone()?,
+            String::from_str(rt.alloc(), "blob.tmp")?,
+            progress,
+        );
         let mut into = [9; 3];
         assert_eq!(rt; blob.len(), Ok(0));
         assert_eq!(rt; blob.read_at(0, &mut into), Err(Failed));

@@ -3,6 +3,7 @@ ghost use Rattle.std.specs.Prelude.{◌≡◌, false, is_some};
 ghost use Rattle.std.specs.declared.option.Option.TheVariants.{None};
 ghost use Rattle.tpz_io.specs.Causes.{one_more};
 
+use crate::progress::clear_line;
 use std::alloc::Global;
 use std::fs::File;
 use std::io;
@@ -14,13 +15,14 @@ use tpz_io::{Failed, Out};
 /// that wasn't finished is made anew under the same number. Notes go to standard output. It tells nothing
 /// of what is in the files.
 #[derive(Drop)]
-pub struct FileOut<R: Files<File = File> + Print + Drop> {
+pub struct FileOut<R: Files<File = File> + Print + Eprint + Drop> {
     rt: R,
     alloc: Global,
     folder: String,
     file: Option<File>,
     finished: u64,
     faults: u64,
+    shows_progress: bool,
 }
 
 // Writes all bytes.
@@ -40,9 +42,10 @@ fn write_all<W: Write>(to: &mut W, bytes: &[u8]) -> Option<()> {
     None
 }
 
-impl<R: Files<File = File> + Print + Drop> FileOut<R> {
-    /// An output into this folder, with no part. No call was made.
-    pub fn new(rt: R, alloc: Global, folder: String) -> Self
+impl<R: Files<File = File> + Print + Eprint + Drop> FileOut<R> {
+    /// An output into this folder, with no part. No call was made. Where progress is shown, its line is cleared
+    /// before a note.
+    pub fn new(rt: R, alloc: Global, folder: String, shows_progress: bool) -> Self
         ensures faults { ⟦<FileOut<R> as Out>⟧.faults result ≡ 0 }
         ensures closed { ⟦<FileOut<R> as Out>⟧.is_open result ≡ false }
     {
@@ -53,6 +56,7 @@ impl<R: Files<File = File> + Print + Drop> FileOut<R> {
             file: None,
             finished: 0,
             faults: 0,
+            shows_progress,
         }
     }
 
@@ -65,6 +69,9 @@ impl<R: Files<File = File> + Print + Drop> FileOut<R> {
     }
 
     fn print(&self, line: &[u8]) -> Option<()> {
+        if self.shows_progress {
+            clear_line(&self.rt);
+        }
         let mut to = io::writer(&self.rt);
         write_all(&mut to, line)?;
         write_all(&mut to, b"\n")
@@ -80,7 +87,7 @@ impl<R: Files<File = File> + Print + Drop> FileOut<R> {
     }
 }
 
-impl<R: Files<File = File> + Print + Drop> Out for FileOut<R> {
+impl<R: Files<File = File> + Print + Eprint + Drop> Out for FileOut<R> {
     ghost parts = { λ _. None };
 
     ghost unfinished = { λ _. None };
@@ -135,7 +142,7 @@ mod tests {
     #[test]
     fn an_unfinished_part_is_made_anew(rt: HostRuntime) -> Result<(), Fail> {
         let alloc = rt.alloc();
-        let mut out = FileOut::new(rt.clone()?, alloc, String::from_str(alloc, ".")?);
+        let mut out = FileOut::new(rt.clone()?, alloc, String::from_str(alloc, ".")?, false);
         write_part(&mut out, b"one")?;
         assert_eq!(rt; out.part(), Ok(()));
         assert_eq!(rt; out.write(b"dropped"), Ok(()));
@@ -143,7 +150,7 @@ mod tests {
         assert_eq!(rt; out.note(b"a note"), Ok(()));
         assert_eq!(rt; fs::read_to_string(&rt, "part-1.ply")?.as_str(), "one");
         assert_eq!(rt; fs::read_to_string(&rt, "part-2.ply")?.as_str(), "two");
-        let mut lost = FileOut::new(rt.clone()?, alloc, String::from_str(alloc, "none")?);
+        let mut lost = FileOut::new(rt.clone()?, alloc, String::from_str(alloc, "none")?, false);
         assert_eq!(rt; lost.part(), Err(Failed));
         assert_eq!(rt; (out.faults, lost.faults), (0, 1));
         Ok(())

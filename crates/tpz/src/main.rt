@@ -5,28 +5,67 @@
 mod file_blob;
 mod file_out;
 mod file_source;
+mod progress;
 
 use file_blob::FileBlob;
 use file_out::FileOut;
 use file_source::FileSource;
+use progress::{Progress, clear_line};
 use puzzle_cli::{Status, run};
 use std::alloc::{AllocError, Global};
 use std::env;
+use std::io::IsTerminal;
 use std::process::ExitCode;
 
 fn path_in(alloc: Global, folder: &str, name: &str) -> Result<String, AllocError> {
     format!(in alloc; "{folder}/{name}")
 }
 
-// Runs the command of these words over the files of a folder.
+// Progress of the file of this name in a folder, where it is shown.
+fn progress_of(
+    rt: &HostRuntime,
+    name: &'static str,
+    is_shown: bool,
+) -> Result<Progress<HostRuntime>, AllocError> {
+    Ok(Progress::new(rt.clone()?, name, is_shown))
+}
+
+fn source_in(
+    rt: &HostRuntime,
+    folder: &str,
+    name: &'static str,
+    is_shown: bool,
+) -> Result<FileSource<HostRuntime>, AllocError> {
+    let progress = progress_of(rt, name, is_shown)?;
+    Ok(FileSource::new(rt.clone()?, path_in(rt.alloc(), folder, name)?, progress))
+}
+
+fn blob_in(
+    rt: &HostRuntime,
+    folder: &str,
+    name: &'static str,
+    is_shown: bool,
+) -> Result<FileBlob<HostRuntime>, AllocError> {
+    let progress = progress_of(rt, name, is_shown)?;
+    Ok(FileBlob::new(rt.clone()?, path_in(rt.alloc(), folder, name)?, progress))
+}
+
+// Runs the command of these words over the files of a folder. On a terminal it shows what was read of the input
+// and written of the store.
 fn run_in(rt: &HostRuntime, folder: &str, words: &[String]) -> Result<Status, AllocError> {
     let alloc = rt.alloc();
-    let mut input = FileSource::new(rt.clone()?, path_in(alloc, folder, "input.ply")?);
-    let mut script = FileSource::new(rt.clone()?, path_in(alloc, folder, "script.txt")?);
-    let mut work = FileBlob::new(rt.clone()?, path_in(alloc, folder, "work.tmp")?);
-    let mut store = FileBlob::new(rt.clone()?, path_in(alloc, folder, "store.tpz")?);
-    let mut out = FileOut::new(rt.clone()?, alloc, String::from_str(alloc, folder)?);
-    Ok(run(
+    let is_shown = rt.stderr().is_terminal();
+    let mut input = source_in(rt, folder, "input.ply", is_shown)?;
+    let mut script = source_in(rt, folder, "script.txt", false)?;
+    let mut work = blob_in(rt, folder, "work.tmp", false)?;
+    let mut store = blob_in(rt, folder, "store.tpz", is_shown)?;
+    let mut out = FileOut::new(
+        rt.clone()?,
+        alloc,
+        String::from_str(alloc, folder)?,
+        is_shown,
+    );
+    let status = run(
         alloc,
         words,
         &mut input,
@@ -34,7 +73,11 @@ fn run_in(rt: &HostRuntime, folder: &str, words: &[String]) -> Result<Status, Al
         &mut work,
         &mut store,
         &mut out,
-    ))
+    );
+    if is_shown {
+        clear_line(rt);
+    }
+    Ok(status)
 }
 
 // The arguments behind the program's name; none where one of them is no text.
