@@ -157,3 +157,41 @@ fn a_tour_writes_closed_parts(rt: HostRuntime) -> Result<(), Fail> {
     assert_eq!(rt; failures(rt.alloc(), TOURED_CUBE)?.as_str(), "");
     Ok(())
 }
+
+// The numbers of the build and of the parts are those of the plain program. Seven blocks are read for each part that has all triangles, none
+// for the others, and four calls open the store.
+const LARGE_TOURS: &str = "\
+case one tour
+work_room 200000
+store_room 2000000
+out_room 2000000
+run gen --size 40
+again
+script view 1280 1280 1280 0/write/view 5000 1280 1280 65536/write/view 20000 1280 1280 65536/write/view -3000 -3000 -3000 4096/write/view 1280 1280 2600 256/write/
+run tour --budget 16384
+line
+parts 5
+faces 0 19200
+faces 1 3694
+faces 2 3694
+faces 3 19200
+faces 4 19200
+notes build tris 19200 dropped 0 records 7 peak 7390 budget 16384/replay parts 5 reads 25 tests 35/
+left_bytes 1435924
+store
+run tour --budget 16384
+line
+parts 5
+faces 0 19200
+faces 1 3694
+faces 2 3694
+faces 3 19200
+faces 4 19200
+notes build tris 19200 dropped 0 records 7 peak 7390 budget 16384/replay parts 5 reads 25 tests 35/
+left_bytes 1435924";
+
+#[test]
+fn two_tours_over_many_triangles_write_the_same(rt: HostRuntime) -> Result<(), Fail> {
+    assert_eq!(rt; failures(rt.alloc(), LARGE_TOURS)?.as_str(), "");
+    Ok(())
+}
