@@ -1,5 +1,5 @@
 -- From a stream that was split and built to the store of an input, and from a line to a note.
-use Rattle.std.proofs.Common.{◌≡◌, ℕ, List, [], ◌∷◌, ◌++◌, length, refl, sym, ◌∙◌, ap, ap₂, subst}
+use Rattle.std.proofs.Common.{◌≡◌, ◌⊎◌, ℕ, List, [], ◌∷◌, ◌++◌, inl, inr, length, refl, sym, ◌∙◌, ap, ap₂, subst}
 use Rattle.std.specs.Prelude.{◌≤◌, ℤ, unsigned_abs, All, Option, Some, None, Result, Ok, Err, pos}
 use Rattle.std.specs.List.{slice_index_or}
 use Rattle.tpz_base.specs.declared.shape.Point.{Point}
@@ -15,6 +15,8 @@ use Rattle.tri_stream.specs.Streams.{told_list, StreamsState}
 use Rattle.assign.specs.Names.{LeafTable}
 use Rattle.assign.specs.Splits.{split_set}
 use Rattle.assign.specs.Standing.{HoldsPatches}
+use Rattle.build_pass.specs.declared.fault.BuildFault.{BuildFault}
+use Rattle.build_pass.specs.declared.fault.BuildFault.TheVariants as build
 use Rattle.build_pass.specs.declared.pass.Built.{Built}
 use Rattle.build_pass.specs.Building.{greatest_fine, IsBuildable}
 use Rattle.build_pass.proofs.Coarsening.{held_right}
@@ -28,7 +30,7 @@ use Rattle.puzzle_cli.specs.declared.status.Status.{Status}
 use Rattle.puzzle_cli.specs.declared.status.Status.TheVariants as status
 use Rattle.puzzle_cli.specs.Build.{built_of, params_of, stream_params, summary_of}
 use Rattle.puzzle_cli.specs.Readings.{IsSmallStream, IsStreamOf}
-use Rattle.puzzle_cli.specs.Statuses.{IsUnbuilt, IsUnread}
+use Rattle.puzzle_cli.specs.Statuses.{build_status, IsUnbuilt, IsUnread}
 use Rattle.cut_export.proofs.Pieces.{followed_by-nil}
 
 -- a list that is told has bytes that are told
@@ -105,6 +107,19 @@ unread_never s t unread is never = absurd (let same : s ≡ t = cc in never (sub
 
 pub err_is : {X : Type 0} (s t : Status) → ◌≡◌ {A = Result X Status} (Err s) (Err t) → s ≡ t
 err_is s t is = cc
+
+-- what a store that isn't built is told as
+pub build_told : (s : Status) (f : BuildFault) → s ≡ build_status f → (s ≡ status.Memory) ⊎ ((s ≡ status.TooManyRecords) ⊎ (s ≡ status.StoreFault))
+build_told s build.StoreFault is = inr (inr is)
+build_told s build.Memory is = inl is
+
+pub never_too_many : (s : Status) (f : BuildFault) → s ≡ build_status f → s ≡ status.TooManyRecords → ⊥
+never_too_many s build.StoreFault is many = absurd cc
+never_too_many s build.Memory is many = absurd cc
+
+pub store_fault_told : (s : Status) (f : BuildFault) → s ≡ build_status f → s ≡ status.StoreFault → f ≡ build.StoreFault
+store_fault_told s build.StoreFault is fault = refl
+store_fault_told s build.Memory is fault = absurd cc
 
 -- what ends a reading may end a build
 pub unread_unbuilt : (s : Status) → IsUnread s → IsUnbuilt s

@@ -1,5 +1,5 @@
 -- The split of the stream is built.
-use Rattle.std.proofs.Common.{◌≡◌, ◌≤◌, ◌⊎◌, length, subst, inl, inr}
+use Rattle.std.proofs.Common.{◌≡◌, ◌≤◌, ◌⊎◌, Err, ap, length, subst, inl, inr}
 use Rattle.std.specs.Option.{ForSome}
 use Rattle.tpz_base.specs.Meshes.{Mesh}
 use Rattle.diamond_graph.specs.Adding.{most_centres}
@@ -10,7 +10,7 @@ use Rattle.patch_file.specs.declared.shape.Params.{Params}
 use Rattle.patch_file.specs.Written.{ReadsUnfinished}
 use Rattle.build_pass.specs.Building.{greatest_fine, store_of}
 use Rattle.puzzle_cli.proofs.ReadLemmas.{told_later}
-use Rattle.puzzle_cli.proofs.BuildSteps.{built_is, split_at, stream_buildable, told_bytes}
+use Rattle.puzzle_cli.proofs.BuildSteps.{build_told, built_is, err_is, never_too_many, split_at, store_fault_told, stream_buildable, told_bytes}
 use Rattle.puzzle_cli.proofs.building.store_stream.Goals as goal
 
 pub returns-in-Ok-build-clause-built : goal.returns-in-Ok-build-clause-built
@@ -55,3 +55,15 @@ returns-clause-refused g c = λ M told.
 
 pub returns-clause-left : goal.returns-clause-left
 returns-clause-left g c = inr (λ store at. elim (c.in-Err-build.ensures.left store at) [ inl shut ↦ inl shut | inr some ↦ inr (some.0, c.params_of-params.result, some.1) ])
+
+pub returns-clause-too_many : goal.returns-clause-too_many
+returns-clause-too_many g c = λ e. absurd (never_too_many _ _ c.status_of_build.ensures (err_is _ _ e))
+
+pub returns-clause-before : goal.returns-clause-before
+returns-clause-before g c = λ e. absurd (never_too_many _ _ c.status_of_build.ensures (err_is _ _ e))
+
+pub returns-clause-status : goal.returns-clause-status
+returns-clause-status g c = build_told _ _ c.status_of_build.ensures
+
+pub returns-clause-cause : goal.returns-clause-cause
+returns-clause-cause g c = λ e. c.in-Err-build.ensures.cause (ap Err (store_fault_told _ _ c.status_of_build.ensures (err_is _ _ e)))
