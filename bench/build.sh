@@ -1,11 +1,12 @@
 #!/bin/sh
-# Times the command `build` beside a plain program of the same job, over closed meshes of three sizes.
+# Times the command `build` beside a plain program of the same job, over closed meshes of three sizes, or over meshes that are hard.
 #
 #     YARDSTICK=/path/to/its/sources bench/build.sh [SCRATCH]
 #
 # YARDSTICK, YARDSTICK_BIN, PROVED and SCRATCH are as for finest.sh; SCRATCH takes about 400 MB. SIZES is the numbers of cells
 # along an edge (40, 100 and 200 where it isn't given), so there are 12 SIZE^2 triangles; WORDS is the options of `build`
-# (none); RUNS is how often each program runs (3).
+# (none); RUNS is how often each program runs (3). MESHES is names and numbers of hard_meshes.py, as `fan:30000 flat:400`, in the place of
+# SIZES.
 #
 # Both programs run in turn, each over the mesh that the plain one makes (`gen --size`). Printed are the least wall time, the
 # least processor time and the greatest peak of memory of each, the ratios, and whether the two stores and notes are the same
@@ -21,10 +22,20 @@ runs=${RUNS:-3}
 prepare "${1:-}"
 same=0
 
+# The mesh of a size, or a hard one.
+make_input() {
+    case $1 in
+    *:*) "$here/hard_meshes.py" "${1%%:*}" "${1##*:}" "$scratch/plain/input.ply" ;;
+    *)
+        "$yardstick" "$scratch/plain" gen --size "$1" >/dev/null
+        mv "$scratch/plain/part-1.ply" "$scratch/plain/input.ply"
+        ;;
+    esac
+}
+
 # Both programs in turn over one mesh.
 compare() {
-    "$yardstick" "$scratch/plain" gen --size "$1" >/dev/null
-    mv "$scratch/plain/part-1.ply" "$scratch/plain/input.ply"
+    make_input "$1"
     cp "$scratch/plain/input.ply" "$scratch/proved/input.ply"
     fresh_times
     run=0
@@ -45,7 +56,8 @@ compare() {
     fi
 }
 
-for size in ${SIZES:-40 100 200}; do
-    compare "$size"
+for mesh in ${MESHES:-${SIZES:-40 100 200}}; do
+    echo "$mesh:"
+    compare "$mesh"
 done
 exit "$same"
