@@ -3,6 +3,7 @@ ghost use Rattle.std.specs.Prelude.{◌≡◌, true, false, IfOk};
 ghost use Rattle.tpz_base.specs.Reach.{IsNear};
 
 use edge_collapse::{Bench, Key, key, legal};
+use patch_mesh::Workshop;
 use std::alloc::{AllocError, Global};
 use std::process::Abort;
 use std::test::Fail;
@@ -363,5 +364,23 @@ fn a_closed_grid_of_300_triangles_is_halved(rt: HostRuntime) -> Result<(), Fail>
         left = left.wrapping_add(weight(t.a, t.b, t.c).wrapping_mul(place));
     }
     assert_eq!(rt; (bench.shop().len(), left), (150, 20036632));
+    Ok(())
+}
+
+// The corners at a vertex are met once each, and then round; a collapse leaves those of the triangles that stay.
+#[test]
+fn corners_are_met_once_and_round(rt: HostRuntime) -> Result<(), Fail> {
+    let mut shop = Workshop::new(rt.alloc(), 2)?;
+    shop.push_tri(Tri { a: A, b: B, c: M });
+    shop.push_tri(Tri { a: B, b: C, c: M });
+    assert_eq!(rt; shop.corner_of(M), Some(2));
+    assert_eq!(rt; shop.next_corner(2), 5);
+    assert_eq!(rt; shop.next_corner(5), 2);
+    assert_eq!(rt; shop.corner_tri(5), Tri { a: B, b: C, c: M });
+    shop.replace(M, A);
+    assert_eq!(rt; shop.corner_of(M), None);
+    assert_eq!(rt; shop.corner_of(A), Some(5));
+    assert_eq!(rt; shop.next_corner(5), 5);
+    assert_eq!(rt; shop.corner_tri(5), Tri { a: B, b: C, c: A });
     Ok(())
 }
