@@ -10,6 +10,7 @@ mod progress;
 use file_blob::FileBlob;
 use file_out::FileOut;
 use file_source::FileSource;
+use paged_blob::Paged;
 use progress::{Progress, clear_line};
 use puzzle_cli::{Status, run};
 use std::alloc::{AllocError, Global};
@@ -50,14 +51,15 @@ fn blob_in(
     Ok(FileBlob::new(rt.clone()?, path_in(rt.alloc(), folder, name)?, progress))
 }
 
-// Runs the command of these words over the files of a folder. On a terminal it shows what was read of the input
-// and written of the store.
+// Runs the command of these words over the files of a folder. The work file is behind pages. On a terminal it shows what
+// was read of the input and written of the store.
 fn run_in(rt: &HostRuntime, folder: &str, words: &[String]) -> Result<Status, AllocError> {
     let alloc = rt.alloc();
     let is_shown = rt.stderr().is_terminal();
     let mut input = source_in(rt, folder, "input.ply", is_shown)?;
     let mut script = source_in(rt, folder, "script.txt", false)?;
-    let mut work = blob_in(rt, folder, "work.tmp", false)?;
+    let work_file = blob_in(rt, folder, "work.tmp", false)?;
+    let mut work = Paged::new(alloc, work_file)?;
     let mut store = blob_in(rt, folder, "store.tpz", is_shown)?;
     let mut out = FileOut::new(
         rt.clone()?,
