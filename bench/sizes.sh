@@ -1,6 +1,6 @@
 #!/bin/sh
-# Measures the table of sizes in README: for three generated meshes the time and memory of a build with default options, the
-# bytes, and the time of a flight of 50 views with a part each.
+# Measures the table of sizes in README: for three generated meshes the processor time and memory of a build with default
+# options, the bytes, and the processor time of a flight of 50 views with a part each.
 #
 #     bench/sizes.sh [SIZES]                  40, 130 and 300 where none are given
 #
@@ -17,10 +17,10 @@ work=$(mktemp -d)
 trap 'rm -rf "$work"' EXIT
 trap 'exit 1' HUP INT TERM
 
-# The wall seconds and peak KB of a run, which leaves its line in said.
+# The processor seconds and peak KB of a run, which leaves its line in said.
 measured() {
-    /usr/bin/time -o "$work/time" -f '%e %M' "$@" >"$work/said"
-    cat "$work/time"
+    /usr/bin/time -o "$work/time" -f '%U %S %M' "$@" >"$work/said"
+    awk '{ printf "%.2f %d\n", $1 + $2, $3 }' "$work/time"
 }
 
 megabytes() {
