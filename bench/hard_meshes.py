@@ -14,15 +14,11 @@ import math
 import random
 import sys
 
+from shapes import squares
+
 
 def grid(n, height, step=16):
-    points = [(i * step, j * step, height(i, j)) for i in range(n + 1) for j in range(n + 1)]
-    tris = []
-    for i in range(n):
-        for j in range(n):
-            a, b = i * (n + 1) + j, (i + 1) * (n + 1) + j
-            tris += [(a, b, b + 1), (a, b + 1, a + 1)]
-    return points, tris
+    return [(i * step, j * step, height(i, j)) for i in range(n + 1) for j in range(n + 1)], squares(n)
 
 
 def field(n):

@@ -29,6 +29,16 @@ def height(parts, x, y, z):
     return sum(amplitude * math.sin(a * x + b * y + c * z + shift) for a, b, c, shift, amplitude in parts)
 
 
+def squares(n):
+    """The triangles of n by n cells, whose points stand row by row, n + 1 in each."""
+    tris = []
+    for i in range(n):
+        for j in range(n):
+            a, b = i * (n + 1) + j, (i + 1) * (n + 1) + j
+            tris += [(a, b, b + 1), (a, b + 1, a + 1)]
+    return tris
+
+
 def terrain(n):
     """A square of n by n cells, 3,200 m wide, with hills."""
     parts = list(waves(4, 60, 4, 180, 1.1))
@@ -37,12 +47,7 @@ def terrain(n):
         for j in range(n + 1):
             x, y = i / n, j / n
             points.append((431200.25 + 3200 * x, 5412300.5 + 3200 * y, round(412 + 420 * height(parts, x, y, 0), 3)))
-    tris = []
-    for i in range(n):
-        for j in range(n):
-            a, b = i * (n + 1) + j, (i + 1) * (n + 1) + j
-            tris += [(a, b, b + 1), (a, b + 1, a + 1)]
-    return points, tris
+    return points, squares(n)
 
 
 def rock(n):
