@@ -1,6 +1,6 @@
 -- The sum of coordinates that the code compares with 0 has the sign of the side.
 use Rattle.std.proofs.Common.{w64, to_z, of_z, ◌≡◌, ◌<◌, ◌≤◌, ℕ, zero, suc, ◌+◌, ◌-◌, ◌*◌, ◌/◌, ◌%◌, ◌^◌, Bool, true, false, List, [], ◌∷◌, ◌++◌, map, length, refl, sym, ◌∙◌, ap, ap₂, subst, arith, pow_pos}
-use Rattle.std.specs.Prelude.{ℤ, pos, ◌+ℤ◌, ◌-ℤ◌, int_lt, unsigned_abs, min, filter, slice_get, IfSome}
+use Rattle.std.specs.Prelude.{ℤ, pos, ◌+ℤ◌, ◌-ℤ◌, int_lt, unsigned_abs, min, filter, slice_get, Option, Some, None, IfSome}
 use Rattle.std.specs.List.{slice_index_or}
 use Rattle.std.proofs.lemmas.Int.{ints, to_z-of_z, fits_signed_from_abs}
 use Rattle.std.proofs.Math.IntN.{+ℤ_comm}
@@ -28,7 +28,7 @@ use Rattle.tetra_name.proofs.Children.{cube_parts, face_parts, edge_parts}
 use Rattle.tetra_name.proofs.ChildLaw.{may_back}
 use Rattle.tetra_name.proofs.PlaceLaw.{centre_of_name, has_pair, picked, stands, level_of_scale, box_of_scale, even_of_scale}
 use Rattle.tetra_name.proofs.StatesLaw.{axes_of_states, cube_slot, pair_law}
-use Rattle.assign.specs.Leans.{lean, middle_axes, middle_axis, outer}
+use Rattle.assign.specs.Leans.{lean, middle_axes, middle_axis, middle_step, outer}
 use Rattle.assign.specs.Paths.{is_beyond}
 use Rattle.assign.proofs.Volumes.{toward}
 use Rattle.assign.proofs.SideLaw.{scale_at, cube_beyond, face_beyond, edge_beyond}
@@ -360,3 +360,24 @@ outer_same axis e f g = cc
 
 pub total_same : {x x' y y' z z' : ℤ} → x ≡ x' → y ≡ y' → z ≡ z' → x +ℤ (y +ℤ z) ≡ x' +ℤ (y' +ℤ z')
 total_same e f g = ap₂ (λ u v. u +ℤ v) e (ap₂ (λ u v. u +ℤ v) f g)
+
+-- whether there are three steps, by the axis of the middle one
+pub three_steps : (r : ℕ) (u : Point) (slot axis : ℕ) → Some axis ≡ middle_step r u slot → (r ≡ 0) × (axis ≡ middle_axis u slot)
+unfolding middle_step
+three_steps zero u slot axis e = let k : axis ≡ middle_axis u slot = cc in (refl, k)
+three_steps (suc r) u slot axis e = absurd cc
+
+pub fewer_steps : (r : ℕ) (u : Point) (slot : ℕ) → None ≡ middle_step r u slot → r ≡ 0 → ⊥
+unfolding middle_step
+fewer_steps zero u slot e m = absurd cc
+fewer_steps (suc r) u slot e m = omega (arith, m)
+
+pub step_there : (n r : ℕ) (u : Point) (slot axis : ℕ) → r ≡ n % 3 → n % 3 ≡ 0 → axis ≡ middle_axis u slot → Some axis ≡ middle_step r u slot
+unfolding middle_step
+step_there n zero u slot axis k m e = ap Some e
+step_there n (suc r) u slot axis k m e = absurd (omega (arith, k, m))
+
+pub no_step : (n r : ℕ) (u : Point) (slot : ℕ) → r ≡ n % 3 → (n % 3 ≡ 0 → ⊥) → None ≡ middle_step r u slot
+unfolding middle_step
+no_step n zero u slot k m = absurd (m (sym k))
+no_step n (suc r) u slot k m = refl

@@ -1,5 +1,5 @@
 -- The side of the bisecting plane by coordinates. The plane stands upright on the steps of the bisected edge, but for the middle step of three.
-use Rattle.std.specs.Prelude.{ℕ, zero, suc, ◌+◌, ◌*◌, ◌/◌, ◌%◌, ◌==◌, List, [], ◌∷◌, ℤ, pos, ◌+ℤ◌, ◌-ℤ◌, if◌then◌else◌}
+use Rattle.std.specs.Prelude.{ℕ, zero, suc, ◌+◌, ◌*◌, ◌/◌, ◌%◌, ◌==◌, List, [], ◌∷◌, ℤ, pos, ◌+ℤ◌, ◌-ℤ◌, if◌then◌else◌, Option, Some, None}
 use Rattle.std.specs.List.{slice_index_or}
 use Rattle.tpz_base.specs.declared.shape.Point.{Point}
 
@@ -19,6 +19,11 @@ middle_axes = 1 ∷ 2 ∷ 0 ∷ 2 ∷ 0 ∷ 1 ∷ 2 ∷ 0 ∷ 1 ∷ 0 ∷ 1 ∷ 
 -- way the diagonal runs along z
 unfoldable pub middle_axis : Point → ℕ → ℕ
 middle_axis u slot = slice_index_or middle_axes (6 * (u.x % 4 / 2 + 2 * (u.y % 4 / 2)) + slot) 0
+
+-- the axis of the middle step of the tetrahedron at a slot, whose level has this rest by three. None where there are fewer than three steps
+unfoldable pub middle_step : ℕ → Point → ℕ → Option ℕ
+middle_step zero u slot = Some (middle_axis u slot)
+middle_step (suc rest) u slot = None
 
 -- the sum on the two other axes
 unfoldable pub outer : ℕ → ℤ → ℤ → ℤ → ℤ

@@ -2,6 +2,7 @@ pub mod Paths
 pub mod Leaf
 pub mod Sums
 pub mod Leans
+pub mod Planes
 pub mod Near
 pub mod Names
 pub mod Splits

@@ -16,5 +16,5 @@ pub use leaf::leaf_of;
 pub use leaves::{Leaves, Split};
 pub use naming::stream_of;
 pub use near::nearest;
-pub use plane::side;
+pub use plane::{Plane, side};
 pub use root::root_of;
