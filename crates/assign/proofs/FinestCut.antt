@@ -2,18 +2,18 @@
 use Rattle.std.proofs.Common.{◌≡◌, ℕ, zero, suc, ◌+◌, ◌-◌, ◌*◌, ◌<◌, ◌≤◌, ◌⊎◌, Bool, true, false, cond, not, List, [], ◌∷◌, ◌++◌, refl, sym, ◌∙◌, ap, subst, inl, inr, arith, true≢false, add-zero}
 use Rattle.std.specs.Prelude.{sum_by, flat_map, find, Option, Some, None}
 use Rattle.std.specs.Option.{option_map_or}
-use Rattle.std.proofs.lemmas.Bool.{cases_Bool, false_from_ne_true, not_from_true, cases_lt, or_left, or_right}
+use Rattle.std.proofs.lemmas.Bool.{cases_Bool, false_from_ne_true, not_from_true, or_left, or_right}
 use Rattle.tpz_base.specs.declared.shape.Point.{Point}
 use Rattle.tpz_base.specs.declared.shape.Tri.{Tri}
 use Rattle.tpz_base.specs.Meshes.{Mesh, tri_eq, SameTriangles}
-use Rattle.tpz_base.specs.Tetrahedra.{Tetrahedron, diamond, children, roots, at_level, up_to_level, descendants, members, parts, tetrahedron_eq}
+use Rattle.tpz_base.specs.Tetrahedra.{Tetrahedron, diamond, children, roots, at_level, descendants, members, parts, tetrahedron_eq}
 use Rattle.tpz_base.specs.Lists.{has}
 use Rattle.tpz_base.specs.Points.{point_eq}
 use Rattle.tpz_base.specs.Tetrahedra.{child_0, child_1}
 use Rattle.tpz_base.proofs.PointLemmas.{eq-point_eq}
 use Rattle.tpz_base.specs.Cuts.{active, has_diamond, cut_mesh}
 use Rattle.tpz_base.proofs.SumLemmas.{sum_by-filter, sum_by-flat_map, sum_by-swap, sum_by_same_all}
-use Rattle.tpz_base.proofs.CutLaw.{Member, HasParents, is_parent, member-left, member-right, sum_by_same_on}
+use Rattle.tpz_base.proofs.CutLaw.{Member, HasParents, is_parent, sum_by_same_on}
 use Rattle.diamond_graph.proofs.CutBuilding.{BuiltUp}
 use Rattle.tpz_base.proofs.Members.{tetrahedron_eq-true, tetrahedron_eq_refl, member-filter, member_named, level_within, level_differs, no_twice-differ}
 use Rattle.tpz_base.proofs.Diamonds.{in_levels}

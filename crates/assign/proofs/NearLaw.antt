@@ -1,8 +1,11 @@
 -- The nearest of the first members.
-use Rattle.std.proofs.Common.{◌≡◌, ◌<◌, ◌≤◌, ℕ, zero, suc, ◌+◌, Bool, true, false, List, [], ◌∷◌, map, take, length, refl, sym, ◌∙◌, ap, ap₂, subst, arith}
-use Rattle.std.specs.Prelude.{nat_lt, fold, Option, Some, None, IfSome, slice_get}
+use Rattle.std.proofs.Common.{◌≡◌, ◌<◌, ◌≤◌, ℕ, zero, suc, ◌+◌, ◌^◌, Bool, true, false, List, [], ◌∷◌, map, take, set, length, refl, sym, ◌∙◌, ap, ap₂, subst, inl, inr, ◌⊎◌, arith}
+use Rattle.std.specs.Prelude.{nat_lt, fold, filter, Option, Some, None, IsSome, IfSome, slice_get}
 use Rattle.std.specs.List.{reduce, slice_index_or}
 use Rattle.std.specs.Option.{option_map_or}
+use Rattle.std.proofs.lemmas.Bool.{cases_eq}
+use Rattle.std.proofs.lemmas.List.{length-map, get_or-set_same, get_or-set_other}
+use Rattle.std.proofs.lemmas.List.Sums.{count_by-le-length, length-filter}
 use Rattle.tpz_base.specs.declared.shape.Point.{Point}
 use Rattle.tpz_base.specs.declared.shape.Tri.{Tri}
 use Rattle.tpz_base.specs.Points.{point, point_add, point_scale, max_dist}
@@ -10,36 +13,67 @@ use Rattle.tpz_base.specs.Roots.{corner_sum}
 use Rattle.tpz_base.specs.Tetrahedra.{Tetrahedron, corner, members}
 use Rattle.tetra_name.specs.declared.shape.Half.{Half}
 use Rattle.tetra_name.specs.declared.shape.Tet.{Tet}
-use Rattle.tetra_name.specs.Names.{corners_of, count_of, point_of, tetrahedron_of, IsCentre}
+use Rattle.tetra_name.specs.Names.{corners_of, count_of, point_of, tetrahedron_of, IsCentre, IsName}
+use Rattle.tetra_name.specs.Steps.{is_member, member_at, members_closed, pairs}
+use Rattle.tetra_name.proofs.NamesLaw.{unit_of_centre, members_of}
 use Rattle.assign.specs.declared.near.Near.{Near}
+use Rattle.assign.specs.declared.sum.Sum.{Sum}
 use Rattle.assign.specs.Leaf.{centre_dist, nearer, nearest}
 use Rattle.assign.specs.Near.{nearer_of, IsNearest}
+use Rattle.assign.specs.MemberSums.{member_sum, HasSums}
+use Rattle.assign.specs.Sums.{point_at}
 use Rattle.assign.proofs.LeanLaw.{mapped_at}
 
--- the distance by the listed corners
-by_corners : Point → Point → Point → Point → Point → ℕ
-by_corners p a b c d = max_dist (point_scale 8 p) (point_scale 3 (point_add (point_add a b) (point_add c d)))
+-- the sum by the listed corners
+by_corners : Point → Point → Point → Point → Point
+by_corners a b c d = point_scale 3 (point_add (point_add a b) (point_add c d))
 
-same_corners : (p : Point) {a b c d a' b' c' d' : Point} → a ≡ a' → b ≡ b' → c ≡ c' → d ≡ d' → by_corners p a b c d ≡ by_corners p a' b' c' d'
-same_corners p e f g h = cc
+same_corners : {a b c d a' b' c' d' : Point} → a ≡ a' → b ≡ b' → c ≡ c' → d ≡ d' → by_corners a b c d ≡ by_corners a' b' c' d'
+same_corners e f g h = cc
 
 abbrev at_place : List Half → ℕ → Point
 at_place at i = point_of (slice_index_or at i (record { x = 0; y = 0; z = 0 }))
 
-found_at : (T : Tetrahedron) (p : Point) (at : List Half) (r : ℕ) → map point_of at ≡ T.corners → r ≡ by_corners p (at_place at 0) (at_place at 1) (at_place at 2) (at_place at 3) → r ≡ centre_dist p T
-unfolding by_corners centre_dist
-found_at T p at r e is =
+found_at : (T : Tetrahedron) (at : List Half) (s : Sum) → map point_of at ≡ T.corners → point_at s ≡ by_corners (at_place at 0) (at_place at 1) (at_place at 2) (at_place at 3) → point_at s ≡ member_sum T
+unfolding by_corners member_sum
+found_at T at s e is =
     let here : (i : ℕ) → at_place at i ≡ corner T i = λ i. mapped_at at i ∙ ap (λ xs. slice_index_or xs i (point 0 0 0)) e in
-    is ∙ same_corners p (here 0) (here 1) (here 2) (here 3)
+    is ∙ same_corners (here 0) (here 1) (here 2) (here 3)
 
-pub distance_is : (L : ℕ) (t : Tet) (p : Point) (at : List Half) (r : ℕ) → map point_of at ≡ corners_of L t
-    → r ≡ max_dist (point_scale 8 p) (point_scale 3 (point_add (point_add (at_place at 0) (at_place at 1)) (point_add (at_place at 2) (at_place at 3))))
-    → IfSome (tetrahedron_of L t) (λ T. r ≡ centre_dist p T)
+pub sum_is : (L : ℕ) (t : Tet) (at : List Half) (s : Sum) → map point_of at ≡ corners_of L t
+    → point_at s ≡ point_scale 3 (point_add (point_add (at_place at 0) (at_place at 1)) (point_add (at_place at 2) (at_place at 3)))
+    → IfSome (tetrahedron_of L t) (λ T. point_at s ≡ member_sum T)
 unfolding corners_of by_corners
-distance_is L t p at r listed is = cases (tetrahedron_of L t) listed where
-  cases : (o : Option Tetrahedron) → map point_of at ≡ option_map_or (λ (T : Tetrahedron). T.corners) o [] → IfSome o (λ T. r ≡ centre_dist p T)
+sum_is L t at s listed is = cases (tetrahedron_of L t) listed where
+  cases : (o : Option Tetrahedron) → map point_of at ≡ option_map_or (λ (T : Tetrahedron). T.corners) o [] → IfSome o (λ T. point_at s ≡ member_sum T)
   cases None e = tt
-  cases (Some T) e = found_at T p at r e is
+  cases (Some T) e = found_at T at s e is
+
+by_sum : (p q : Point) (T : Tetrahedron) (r : ℕ) → r ≡ max_dist (point_scale 8 p) q → q ≡ member_sum T → r ≡ centre_dist p T
+unfolding member_sum centre_dist
+by_sum p q T r is e = is ∙ ap (max_dist (point_scale 8 p)) e
+
+-- the distance by the sum
+pub distance_is : (p q : Point) (o : Option Tetrahedron) (r : ℕ) → r ≡ max_dist (point_scale 8 p) q → IfSome o (λ T. q ≡ member_sum T) → IfSome o (λ T. r ≡ centre_dist p T)
+distance_is p q None r is h = tt
+distance_is p q (Some T) r is h = by_sum p q T r is h
+
+-- sums that are written one after another
+pub no_sums : (L : ℕ) (c : Half) (sums : List Sum) → HasSums L c 0 sums
+no_sums L c sums = record { each = λ i h. absurd (omega (arith, h)) }
+
+pub more_sums : (L : ℕ) (c : Half) (n : ℕ) (sums : List Sum) (s : Sum) → n < length sums → HasSums L c n sums
+    → IfSome (tetrahedron_of L (record { centre = c; slot = n })) (λ T. point_at s ≡ member_sum T) → HasSums L c (n + 1) (set sums n s)
+more_sums L c n sums s room h here = record { each = λ i below. cases i below (cases_eq i n) } where
+  z : Sum
+  z = record { x = 0; y = 0; z = 0 }
+
+  IsHere : ℕ → Sum → Type 0
+  IsHere i v = IfSome (tetrahedron_of L (record { centre = c; slot = i })) (λ T. point_at v ≡ member_sum T)
+
+  cases : (i : ℕ) → i < n + 1 → (i ≡ n) ⊎ (i ≡ n → ⊥) → IsHere i (slice_index_or (set sums n s) i z)
+  cases i below (inl e) = subst (λ k. IsHere k (slice_index_or (set sums n s) k z)) (sym e) (subst (IsHere n) (sym (get_or-set_same sums n s z room)) here)
+  cases i below (inr ne) = subst (IsHere i) (sym (get_or-set_other sums n i s z ne)) (h.each i (omega (arith, below, ne)))
 
 -- one more at the end
 fold_more : {X : Type 0} (f : X → X → X) (x : X) (xs : List X) (n : ℕ) (y : X) → slice_get xs n ≡ Some y → fold f x (take (suc n) xs) ≡ f (fold f x (take n xs)) y
@@ -151,3 +185,16 @@ all_members L c i n e h = omega (arith, e, h)
 pub member_there : (L : ℕ) (c : Half) (i : ℕ) (F : Tetrahedron → Type 0) → IfSome (tetrahedron_of L (record { centre = c; slot = i })) F → IfSome (slice_get (members L (point_of c)) i) F
 unfolding tetrahedron_of
 member_there L c i F h = h
+
+-- a diamond has at most 24 members
+pub few_members : (L : ℕ) (c : Point) (n : ℕ) → IsCentre L c → n ≡ count_of L c → n ≤ 24
+unfolding count_of members_closed pairs
+few_members L c n h e =
+    let U = unit_of_centre L c h in
+    let kept = is_member (2 ^ suc U.k) U.u in
+    let all : length (members L c) ≡ length (filter kept pairs) = ap length (members_of L c U) ∙ length-map (filter kept pairs) (member_at U.n (2 ^ U.j) U.u) in
+    omega (arith, all, e, length-filter kept pairs, count_by-le-length kept pairs)
+
+pub has_name : (L : ℕ) (c : Half) (i n : ℕ) → n ≡ count_of L (point_of c) → i < n → IsName L (record { centre = c; slot = i })
+unfolding IsName tetrahedron_of
+has_name L c i n e h = let s = got (members L (point_of c)) i (within L (point_of c) i n e h) in subst IsSome (sym s.1) refl

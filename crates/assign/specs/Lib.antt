@@ -4,6 +4,7 @@ pub mod Sums
 pub mod Leans
 pub mod Planes
 pub mod Near
+pub mod MemberSums
 pub mod Names
 pub mod Splits
 pub mod Standing

@@ -15,6 +15,6 @@ mod sum;
 pub use leaf::leaf_of;
 pub use leaves::{Leaves, Split};
 pub use naming::stream_of;
-pub use near::nearest;
+pub use near::{Members, nearest};
 pub use plane::{Plane, side};
 pub use root::root_of;

@@ -1,5 +1,4 @@
-use Rattle.std.proofs.Common.{◌%◌, refl, ap, ◌∙◌}
-use Rattle.std.specs.Prelude.{Some}
+use Rattle.std.proofs.Common.{◌%◌, refl}
 use Rattle.tetra_name.specs.Names.{point_of}
 use Rattle.assign.proofs.LeanLaw.{no_step, step_there}
 use Rattle.assign.proofs.plane.middle_step.Goals as goal

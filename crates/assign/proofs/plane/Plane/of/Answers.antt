@@ -1,4 +1,4 @@
-use Rattle.std.proofs.Common.{◌≡◌, ◌/◌, ◌%◌, ◌-◌, sym, ap, ◌∙◌}
+use Rattle.std.proofs.Common.{◌/◌, ◌%◌, ◌-◌, ap, ◌∙◌}
 use Rattle.tetra_name.specs.Names.{over, point_of}
 use Rattle.tetra_name.proofs.PlaceLaw.{centre_of_name}
 use Rattle.assign.specs.Leans.{middle_step}
