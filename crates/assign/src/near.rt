@@ -110,6 +110,16 @@ impl Members {
         }
     }
 
+    /// The centre that `of` was given.
+    #[inline]
+    pub fn centre(&self) -> Half
+        ensures centre { result ≡ self.now.centre }
+        ensures bound { IsBound self.now.l }
+        ensures within { IsCentre self.now.l (point_of self.now.centre) }
+    {
+        self.centre
+    }
+
     /// The slot of the member whose centre is nearest to the barycentre of t in the max-norm, the lowest such slot.
     pub fn nearest(&self, t: &Tri) -> u8
         ensures nearest { tetrahedron_of self.now.l (record { centre = self.now.centre; slot = result }) ≡ nearest_of self.now.l (point_of self.now.centre) t.now }

@@ -65,6 +65,7 @@ fn middle_axis(unit: Half, slot: u8) -> u8
 }
 
 /// The axis of the middle step of the tetrahedron at a slot, whose level is `depth`. None where there are fewer than three steps.
+#[inline]
 fn middle_step(unit: Half, depth: u8, slot: u8) -> Option<u8>
     requires { depth % 3 ≡ 0 → slot < 6 }
     ensures { result ≡ middle_step_of (depth % 3) (point_of unit) slot }
@@ -150,6 +151,7 @@ impl Plane {
     }
 
     /// Whether the barycentre is strictly on the side of the plane where the bisected edge ends.
+    #[inline]
     fn is_beyond(&self, t: &Tri) -> bool
         ensures { IfSome (tetrahedron_of self.now.l self.now.name) (λ T. result ≡ is_beyond_of t.now T) }
     {
@@ -166,6 +168,7 @@ impl Plane {
 
     /// The number of the child that t goes to: 1 exactly where its barycentre is strictly on the side of the plane where the bisected edge ends.
     /// The barycentre needn't lie in the tetrahedron.
+    #[inline]
     pub fn side(&self, t: &Tri) -> u8
         ensures side { IfSome (tetrahedron_of self.now.l self.now.name) (λ T. result ≡ side_of t.now T) }
         ensures few { result < 2 }
