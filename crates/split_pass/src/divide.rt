@@ -12,7 +12,7 @@ ghost use Rattle.split_pass.specs.Crowds.{first_part, second_part};
 ghost use Rattle.split_pass.specs.Moves.{Divides, LeavesAllBut, MakesTwo};
 
 use crate::fault::SplitFault;
-use assign::side;
+use assign::Plane;
 use std::alloc::AllocError;
 use tetra_name::Tet;
 use tpz_base::Tri;
@@ -30,14 +30,10 @@ pub(crate) struct Halves {
 fn send<B: Blob>(
     streams: &mut Streams,
     work: &mut B,
-    name: Tet,
-    l: u8,
+    plane: &Plane,
     t: Tri,
     halves: Halves,
 ) -> Result<(), StreamFault>
-    requires bound { IsBound l }
-    requires name { IsName l name }
-    requires level { level_of l (point_of name.centre) < 3 * l }
     requires first { IsLive streams.old halves.first }
     requires second { IsLive streams.old halves.second }
     requires apart { halves.first ≢ halves.second }
@@ -45,8 +41,8 @@ fn send<B: Blob>(
     requires whole { IsTrue (is_whole t) }
     requires cube { IsTriInCube streams.old.l t }
     requires few { total streams.old < 2 ^ 40 }
-    ensures first { OnOk result (ForSome (tetrahedron_of l name) (λ T. told_list streams.new (B.held work.new) halves.first ≡ option_map (λ list. list ++ first_part T (t ∷ [])) (told_list streams.old (B.held work.old) halves.first))) }
-    ensures second { OnOk result (ForSome (tetrahedron_of l name) (λ T. told_list streams.new (B.held work.new) halves.second ≡ option_map (λ list. list ++ second_part T (t ∷ [])) (told_list streams.old (B.held work.old) halves.second))) }
+    ensures first { OnOk result (ForSome (tetrahedron_of plane.now.l plane.now.name) (λ T. told_list streams.new (B.held work.new) halves.first ≡ option_map (λ list. list ++ first_part T (t ∷ [])) (told_list streams.old (B.held work.old) halves.first))) }
+    ensures second { OnOk result (ForSome (tetrahedron_of plane.now.l plane.now.name) (λ T. told_list streams.new (B.held work.new) halves.second ≡ option_map (λ list. list ++ second_part T (t ∷ [])) (told_list streams.old (B.held work.old) halves.second))) }
     ensures live_first { OnOk result (IsLive streams.new halves.first) }
     ensures live_second { OnOk result (IsLive streams.new halves.second) }
     ensures sizes { OnOk result (size_of streams.new halves.first + size_of streams.new halves.second ≡ size_of streams.old halves.first + size_of streams.old halves.second + 1) }
@@ -57,7 +53,7 @@ fn send<B: Blob>(
     ensures later { B.faults work.old ≤ B.faults work.new }
     ensures telling { is_some (B.held work.new) ≡ is_some (B.held work.old) }
 {
-    let id = if side(name, &t, l) == 0 {
+    let id = if plane.side(&t) == 0 {
         halves.first
     } else {
         halves.second
@@ -97,9 +93,10 @@ fn send_all<B: Blob>(
     ensures later { B.faults work.old ≤ B.faults work.new }
     ensures telling { is_some (B.held work.new) ≡ is_some (B.held work.old) }
 {
+    let plane = Plane::of(name, l);
     let mut at = streams.start(id);
     'triangles: while let Some(t) = streams.read(work, &mut at)? {
-        send(streams, work, name, l, t, halves)?;
+        send(streams, work, &plane, t, halves)?;
     }
     Ok(())
 }
