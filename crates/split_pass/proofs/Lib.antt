@@ -3,5 +3,5 @@ pub mod Moving
 mod Crowding
 mod Rooting
 mod CrowdLaw
-mod Naming
 pub mod Placing
+mod Halving

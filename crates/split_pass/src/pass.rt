@@ -13,7 +13,7 @@ ghost use Rattle.split_pass.specs.declared.fault.SplitFault.{SplitFault};
 
 use crate::fault::SplitFault;
 use crate::find::find_all;
-use crate::place::place_all;
+use crate::settle::settle_all;
 use assign::{Leaves, Split};
 use diamond_graph::Closing;
 use tpz_io::Blob;
@@ -57,9 +57,8 @@ pub fn split<B: Blob>(
     ensures telling { is_some (B.held work.new) ≡ is_some (B.held work.old) }
 {
     let l = closing.l();
-    find_all(streams, work, &mut closing, l, whole, cap)?;
+    find_all(streams, work, &mut closing, &mut leaves, l, whole, cap)?;
     let graph = closing.seal()?;
-    place_all(streams, work, &graph, &mut leaves, whole)?;
-    streams.give_back(work, whole)?;
+    settle_all(streams, work, &graph, &mut leaves)?;
     Ok(Split { graph, leaves })
 }

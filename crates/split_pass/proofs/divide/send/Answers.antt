@@ -19,13 +19,13 @@ returns-clause-first g c =
       | then-side-eq0 w ↦
           on_ok_weaker c.append.result
           (λ said. λ T is.
-          let side = at_some (tetrahedron_of c.args.l c.args.name) (λ T. c.side.result ≡ side_of t T) T c.side.ensures.side is in
+          let side = at_some (tetrahedron_of c.args.plane.now.l c.args.plane.now.name) (λ T. c.side.result ≡ side_of t T) T c.side.ensures.side is in
           let all = first_has t T (not_beyond t T c.side.result side w.if-side-eq0.true) in
           rw (all, ← w.id-is) said) c.append.ensures.list
       | else-side-eq0 w ↦
           on_ok_weaker c.append.result
           (λ said. λ T is.
-          let side = at_some (tetrahedron_of c.args.l c.args.name) (λ T. c.side.result ≡ side_of t T) T c.side.ensures.side is in
+          let side = at_some (tetrahedron_of c.args.plane.now.l c.args.plane.now.name) (λ T. c.side.result ≡ side_of t T) T c.side.ensures.side is in
           let none = first_lacks t T (beyond t T c.side.result side w.if-side-eq0.false) in
           said.lists c.args.halves.first (λ same. c.requires.apart (same ∙ w.id-is)) ∙ sym (nothing_more old (first_part T (t ∷ [])) none)) c.append.ensures.others
     ]
@@ -40,14 +40,14 @@ returns-clause-second g c =
       | then-side-eq0 w ↦
           on_ok_weaker c.append.result
           (λ said. λ T is.
-          let side = at_some (tetrahedron_of c.args.l c.args.name) (λ T. c.side.result ≡ side_of t T) T c.side.ensures.side is in
+          let side = at_some (tetrahedron_of c.args.plane.now.l c.args.plane.now.name) (λ T. c.side.result ≡ side_of t T) T c.side.ensures.side is in
           let none = second_lacks t T (not_beyond t T c.side.result side w.if-side-eq0.true) in
           said.lists c.args.halves.second (λ same. c.requires.apart (sym (same ∙ w.id-is))) ∙ sym (nothing_more old (second_part T (t ∷ [])) none))
           c.append.ensures.others
       | else-side-eq0 w ↦
           on_ok_weaker c.append.result
           (λ said. λ T is.
-          let side = at_some (tetrahedron_of c.args.l c.args.name) (λ T. c.side.result ≡ side_of t T) T c.side.ensures.side is in
+          let side = at_some (tetrahedron_of c.args.plane.now.l c.args.plane.now.name) (λ T. c.side.result ≡ side_of t T) T c.side.ensures.side is in
           let all = second_has t T (beyond t T c.side.result side w.if-side-eq0.false) in
           rw (all, ← w.id-is) said) c.append.ensures.list
     ]

@@ -5,6 +5,7 @@ use Rattle.std.specs.Prelude.{not, slice_get}
 use Rattle.std.specs.Option.{unwrap_or}
 use Rattle.tpz_base.specs.declared.shape.Tri.{Tri}
 use Rattle.assign.specs.Paths.{is_beyond}
+use Rattle.tetra_name.specs.Names.{tetrahedron_of}
 use Rattle.tri_stream.specs.Streams.{told_list}
 use Rattle.split_pass.proofs.Dividing.{all_gone, more_gone}
 use Rattle.split_pass.proofs.divide.send_all.Goals as goal
@@ -30,6 +31,7 @@ triangles-preserved g c =
     let now = told_list c.send.new.streams (held c.send.new.work) in
     let h = c.args.halves in
     let one : c.read.new.at.given ≡ c.triangles.at.given + 1 = grind (arith, common_steps) in
+    let plane = ap (λ p. tetrahedron_of p.l p.name) c.of-plane.ensures in
     let id_list : before c.args.id ≡ old c.args.id = inv.others.lists c.args.id c.requires.apart_first c.requires.apart_second in
     record {
       stream = read.stream ∙ inv.stream;
@@ -38,11 +40,11 @@ triangles-preserved g c =
       first = λ T is M was.
           let here : slice_get M c.triangles.at.given ≡ Some c.in-Some.t = sym (read.next M (ap before inv.stream ∙ id_list ∙ was)) ∙ c.in-Some.is in
           rw one (more_gone (λ (t : Tri). not (is_beyond t T)) M c.triangles.at.given c.in-Some.t (old h.first) (during h.first) (now h.first) here
-          (read.all.lists h.first ∙ inv.first T is M was) (send.first T is));
+          (read.all.lists h.first ∙ inv.first T is M was) (send.first T (plane ∙ is)));
       second = λ T is M was.
           let here : slice_get M c.triangles.at.given ≡ Some c.in-Some.t = sym (read.next M (ap before inv.stream ∙ id_list ∙ was)) ∙ c.in-Some.is in
           rw one (more_gone (λ (t : Tri). is_beyond t T) M c.triangles.at.given c.in-Some.t (old h.second) (during h.second) (now h.second) here
-          (read.all.lists h.second ∙ inv.second T is M was) (send.second T is));
+          (read.all.lists h.second ∙ inv.second T is M was) (send.second T (plane ∙ is)));
       live_first = send.live_first;
       live_second = send.live_second;
       sizes =

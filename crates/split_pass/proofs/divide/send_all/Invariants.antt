@@ -17,9 +17,9 @@ invariant-triangles g l =
       stream : l.at.stream ≡ l.fn.id;
       given : l.at.given ≤ size_of l.fn.streams l.fn.id;
       follows : Follows l.streams (held l.work) l.at;
-      first : ForSome (tetrahedron_of l.l l.name)
+      first : ForSome (tetrahedron_of l.fn.l l.fn.name)
           (λ T. ForSome (old l.fn.id) (λ M. now l.halves.first ≡ option_map (λ list. list ++ first_part T (take l.at.given M)) (old l.halves.first)));
-      second : ForSome (tetrahedron_of l.l l.name)
+      second : ForSome (tetrahedron_of l.fn.l l.fn.name)
           (λ T. ForSome (old l.fn.id) (λ M. now l.halves.second ≡ option_map (λ list. list ++ second_part T (take l.at.given M)) (old l.halves.second)));
       live_first : IsLive l.streams l.halves.first;
       live_second : IsLive l.streams l.halves.second;
