@@ -5,3 +5,4 @@ mod Rooting
 mod CrowdLaw
 pub mod Placing
 mod Halving
+mod Settling
