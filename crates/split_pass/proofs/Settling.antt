@@ -1,7 +1,7 @@
 -- A named stream without triangles ends with its name.
-use Rattle.std.proofs.Common.{◌≡◌, ◌≢◌, ℕ, [], ◌∷◌, List, Option, Some, None, refl, sym, ◌∙◌, ap, inl, inr}
+use Rattle.std.proofs.Common.{◌≡◌, ◌≢◌, ℕ, [], ◌∷◌, List, Option, Some, None, length, refl, sym, ◌∙◌, ap, inl, inr}
 use Rattle.std.specs.Prelude.{Contains}
-use Rattle.std.specs.Option.{ForSome}
+use Rattle.std.specs.Option.{ForSome, option_map, unwrap_or}
 use Rattle.std.specs.FinMap.{get, remove}
 use Rattle.tpz_base.specs.declared.shape.Tri.{Tri}
 use Rattle.tpz_base.specs.Meshes.{Mesh}
@@ -12,7 +12,8 @@ use Rattle.tetra_name.specs.declared.shape.Tet.{Tet}
 use Rattle.tetra_name.specs.Names.{tetrahedron_of}
 use Rattle.tetra_name.proofs.NameFacts.{contains-member}
 use Rattle.tri_stream.specs.declared.names.StreamId.{StreamId}
-use Rattle.tri_stream.specs.Streams.{StreamsState, count_of, list_of, told_list, IsLive, LeavesOthers}
+use Rattle.tri_stream.specs.Lists.{list_at}
+use Rattle.tri_stream.specs.Streams.{StreamsState, count_of, list_of, size_of, told_list, IsLive, LeavesOthers}
 use Rattle.tri_stream.proofs.Changes.{live_as_before, live_differs}
 use Rattle.assign.specs.Names.{LeafTable}
 use Rattle.assign.proofs.NameTables.{same_tet}
@@ -94,3 +95,13 @@ ended_holds L M name id m s s' h h' here k back none holds = record { lists = li
 
     once : (t : Tri) → Contains M t → (p q : IsNamed L (remove m name) t) → p.name ≡ q.name
     once t among p q = holds.once t among (before t p) (before t q)
+
+none_of_none : (o : Option Mesh) → unwrap_or (option_map length o) 0 ≡ 0 → unwrap_or o [] ≡ []
+none_of_none None e = refl
+none_of_none (Some []) e = refl
+none_of_none (Some (t ∷ M)) e = absurd cc
+
+-- a stream of no triangles has none
+pub empty_list : (s : StreamsState) (id : StreamId) (bytes : List ℕ) → size_of s id ≡ 0 → list_of s bytes id ≡ []
+unfolding count_of list_of
+empty_list s id bytes e = none_of_none (list_at s.lists id.place) e
