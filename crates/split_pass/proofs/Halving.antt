@@ -331,6 +331,7 @@ module _ (name first second : Tet) (id a b : StreamId) (m m1 m2 : LeafTable) (s 
         let back = ended_size (count_of s3 id) (total s4) (total s3) (live_as_before s2 s3 id same live) v.left in
         let size : unwrap_or (count_of s3 id) 0 ≡ size_of s2 id = same_size s2 s3 id same in
         omega (arith, back, size, v.filled, total_2)
+
     pub below_3 : (F : List Point) (T : Tetrahedron) → IsChildName L 0 name first → IsChildName L 1 name second → tetrahedron_of L name ≡ Some T → Contains (descendants L) T
         → has_diamond F (point_of name.centre) ≡ true → AllBelow L F m → AllBelow L F m3
     below_3 F T ca cb is within split all = λ other x here.
@@ -346,7 +347,7 @@ module _ (name first second : Tet) (id a b : StreamId) (m m1 m2 : LeafTable) (s 
         under S k = inr (T, within, member-contains (children T) S k, ap (has_diamond F) (sym (named_diamond L name T is)) ∙ split)
 
     module _ (T : Tetrahedron) (k : Member (at_level L (level_of L (point_of name.centre))) T) (low : level_of L (point_of name.centre) < 3 * L)
-      (ca : IsChildName L 0 name first) (cb : IsChildName L 1 name second) (is : tetrahedron_of L name ≡ Some T) (M : Mesh) (H : HoldsThrough L M m s h) where
+        (ca : IsChildName L 0 name first) (cb : IsChildName L 1 name second) (is : tetrahedron_of L name ≡ Some T) (M : Mesh) (H : HoldsThrough L M m s h) where
       first_is : tetrahedron_of L first ≡ Some (child_0 T)
       first_is = left_child L name first T ca.is is
 

@@ -6,3 +6,4 @@ mod CrowdLaw
 pub mod Placing
 mod Halving
 mod Searching
+mod Settling

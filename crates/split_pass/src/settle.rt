@@ -1,13 +1,13 @@
 // The streams at which the search ended become those of the leaves.
-ghost use Rattle.std.specs.Prelude.{◌≡◌, ◌≤◌, ◌^◌, ℕ, Some, OnOk, IfErr, is_some};
+ghost use Rattle.std.specs.Prelude.{◌≡◌, ◌≢◌, ◌≤◌, ◌^◌, ℕ, Some, None, OnOk, IfErr, is_some};
 ghost use Rattle.std.specs.Option.{ForSome};
 ghost use Rattle.std.specs.FinMap as map;
 ghost use Rattle.tpz_base.specs.Meshes.{Mesh};
 ghost use Rattle.tetra_name.specs.declared.shape.Tet.{Tet};
-ghost use Rattle.tetra_name.specs.Names.{IsBound};
+ghost use Rattle.tetra_name.specs.Names.{IsBound, IsName};
 ghost use Rattle.diamond_graph.specs.Graphs.{centres};
 ghost use Rattle.tri_stream.specs.declared.names.StreamId.{StreamId};
-ghost use Rattle.tri_stream.specs.Streams.{total, Stands, Stays};
+ghost use Rattle.tri_stream.specs.Streams.{size_of, total, Stands, Stays};
 ghost use Rattle.split_pass.specs.declared.fault.SplitFault.{SplitFault};
 ghost use Rattle.split_pass.specs.Spread.{AllBelow, HoldsThrough, IsKeyed, IsSettled, IsSettling};
 

@@ -118,64 +118,68 @@ returns-clause-keyed g c =
 pub returns-clause-first : goal.returns-clause-first
 returns-clause-first g c =
     let held = g.B.Blob.held in
-    let p = placed c.args.l c.args.name c.requires.bound.most c.requires.name in
-    (c.in_ok-stream_of.field-0, first_3 c.args.name c.args.first c.args.second c.args.id c.in_ok-stream_of.field-0 c.in_ok-stream_of-2.field-0 c.args.leaves.now c.stream_of.new.leaves c.stream_of-2.new.leaves
-    c.args.streams.now c.stream_of.new.streams c.stream_of-2.new.streams (held c.args.work.now)
-    (record {
-      name_first = child_differs c.args.l 0 c.args.name c.args.first c.requires.first;
-      name_second = child_differs c.args.l 1 c.args.name c.args.second c.requires.second;
-      apart = children_apart c.args.l c.args.name c.args.first c.args.second p c.requires.level c.requires.first c.requires.second;
-      here = c.requires.named;
-      keyed = c.requires.keyed;
-      told = c.requires.stands;
-      names_a = c.in_ok-stream_of.ensures.stream;
-      stands = c.stream_of.ensures.stands;
-      names_b = c.in_ok-stream_of-2.ensures.stream;
-    })
-    c.args.l c.take.new.self c.send_all.new.streams c.give_back.new.self (held c.send_all.new.work) (held c.give_back.new.blob)
-    (record {
-      first = c.in_ok-send_all.ensures.first;
-      second = c.in_ok-send_all.ensures.second;
-      live_a = c.in_ok-send_all.ensures.live_first;
-      live_b = c.in_ok-send_all.ensures.live_second;
-      others = c.in_ok-send_all.ensures.others;
-      filled = c.in_ok-send_all.ensures.total;
-      took = c.take.ensures.rest;
-      ended = c.in_ok-give_back.ensures.ended;
-      back = c.in_ok-give_back.ensures.others;
-      left = c.in_ok-give_back.ensures.total;
-    }))
+    let p = placed c.args.l c.args.name c.requires.bound.most c.requires.name in (
+      c.in_ok-stream_of.field-0,
+      first_3 c.args.name c.args.first c.args.second c.args.id c.in_ok-stream_of.field-0 c.in_ok-stream_of-2.field-0 c.args.leaves.now c.stream_of.new.leaves c.stream_of-2.new.leaves
+          c.args.streams.now c.stream_of.new.streams c.stream_of-2.new.streams (held c.args.work.now)
+          (record {
+            name_first = child_differs c.args.l 0 c.args.name c.args.first c.requires.first;
+            name_second = child_differs c.args.l 1 c.args.name c.args.second c.requires.second;
+            apart = children_apart c.args.l c.args.name c.args.first c.args.second p c.requires.level c.requires.first c.requires.second;
+            here = c.requires.named;
+            keyed = c.requires.keyed;
+            told = c.requires.stands;
+            names_a = c.in_ok-stream_of.ensures.stream;
+            stands = c.stream_of.ensures.stands;
+            names_b = c.in_ok-stream_of-2.ensures.stream;
+          })
+          c.args.l c.take.new.self c.send_all.new.streams c.give_back.new.self (held c.send_all.new.work) (held c.give_back.new.blob)
+          (record {
+            first = c.in_ok-send_all.ensures.first;
+            second = c.in_ok-send_all.ensures.second;
+            live_a = c.in_ok-send_all.ensures.live_first;
+            live_b = c.in_ok-send_all.ensures.live_second;
+            others = c.in_ok-send_all.ensures.others;
+            filled = c.in_ok-send_all.ensures.total;
+            took = c.take.ensures.rest;
+            ended = c.in_ok-give_back.ensures.ended;
+            back = c.in_ok-give_back.ensures.others;
+            left = c.in_ok-give_back.ensures.total;
+          }),
+    )
 
 pub returns-clause-second : goal.returns-clause-second
 returns-clause-second g c =
     let held = g.B.Blob.held in
-    let p = placed c.args.l c.args.name c.requires.bound.most c.requires.name in
-    (c.in_ok-stream_of-2.field-0, second_3 c.args.name c.args.first c.args.second c.args.id c.in_ok-stream_of.field-0 c.in_ok-stream_of-2.field-0 c.args.leaves.now c.stream_of.new.leaves c.stream_of-2.new.leaves
-    c.args.streams.now c.stream_of.new.streams c.stream_of-2.new.streams (held c.args.work.now)
-    (record {
-      name_first = child_differs c.args.l 0 c.args.name c.args.first c.requires.first;
-      name_second = child_differs c.args.l 1 c.args.name c.args.second c.requires.second;
-      apart = children_apart c.args.l c.args.name c.args.first c.args.second p c.requires.level c.requires.first c.requires.second;
-      here = c.requires.named;
-      keyed = c.requires.keyed;
-      told = c.requires.stands;
-      names_a = c.in_ok-stream_of.ensures.stream;
-      stands = c.stream_of.ensures.stands;
-      names_b = c.in_ok-stream_of-2.ensures.stream;
-    })
-    c.args.l c.take.new.self c.send_all.new.streams c.give_back.new.self (held c.send_all.new.work) (held c.give_back.new.blob)
-    (record {
-      first = c.in_ok-send_all.ensures.first;
-      second = c.in_ok-send_all.ensures.second;
-      live_a = c.in_ok-send_all.ensures.live_first;
-      live_b = c.in_ok-send_all.ensures.live_second;
-      others = c.in_ok-send_all.ensures.others;
-      filled = c.in_ok-send_all.ensures.total;
-      took = c.take.ensures.rest;
-      ended = c.in_ok-give_back.ensures.ended;
-      back = c.in_ok-give_back.ensures.others;
-      left = c.in_ok-give_back.ensures.total;
-    }))
+    let p = placed c.args.l c.args.name c.requires.bound.most c.requires.name in (
+      c.in_ok-stream_of-2.field-0,
+      second_3 c.args.name c.args.first c.args.second c.args.id c.in_ok-stream_of.field-0 c.in_ok-stream_of-2.field-0 c.args.leaves.now c.stream_of.new.leaves c.stream_of-2.new.leaves
+          c.args.streams.now c.stream_of.new.streams c.stream_of-2.new.streams (held c.args.work.now)
+          (record {
+            name_first = child_differs c.args.l 0 c.args.name c.args.first c.requires.first;
+            name_second = child_differs c.args.l 1 c.args.name c.args.second c.requires.second;
+            apart = children_apart c.args.l c.args.name c.args.first c.args.second p c.requires.level c.requires.first c.requires.second;
+            here = c.requires.named;
+            keyed = c.requires.keyed;
+            told = c.requires.stands;
+            names_a = c.in_ok-stream_of.ensures.stream;
+            stands = c.stream_of.ensures.stands;
+            names_b = c.in_ok-stream_of-2.ensures.stream;
+          })
+          c.args.l c.take.new.self c.send_all.new.streams c.give_back.new.self (held c.send_all.new.work) (held c.give_back.new.blob)
+          (record {
+            first = c.in_ok-send_all.ensures.first;
+            second = c.in_ok-send_all.ensures.second;
+            live_a = c.in_ok-send_all.ensures.live_first;
+            live_b = c.in_ok-send_all.ensures.live_second;
+            others = c.in_ok-send_all.ensures.others;
+            filled = c.in_ok-send_all.ensures.total;
+            took = c.take.ensures.rest;
+            ended = c.in_ok-give_back.ensures.ended;
+            back = c.in_ok-give_back.ensures.others;
+            left = c.in_ok-give_back.ensures.total;
+          }),
+    )
 
 pub returns-clause-gone : goal.returns-clause-gone
 returns-clause-gone g c =
