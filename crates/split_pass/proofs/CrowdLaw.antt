@@ -220,10 +220,10 @@ reached (suc n) m L cap T M V t (suc j) all k here h more =
     (subst (λ S. has_diamond (below n L cap T M V) (diamond S) ≡ true) (sym e) there)
 
 -- the roots
-slot_few : (p : Point) → root_slot p < 6
+pub slot_few : (p : Point) → root_slot p < 6
 slot_few = each_slot (λ n. n < 6) (omega arith) (omega arith) (omega arith) (omega arith) (omega arith) (omega arith)
 
-root_member : (L k : ℕ) → k < 6 → Member (roots L) (root_slot_of L k)
+pub root_member : (L k : ℕ) → k < 6 → Member (roots L) (root_slot_of L k)
 unfolding root_slot_of
 root_member L zero h = inl refl
 root_member L (suc zero) h = inr (inl refl)
@@ -234,7 +234,7 @@ root_member L (suc (suc (suc (suc (suc zero))))) h = inr (inr (inr (inr (inr (in
 root_member L (suc (suc (suc (suc (suc (suc k)))))) h = absurd (omega arith)
 
 -- in a list without twins an element stands at one place
-one_place : (xs : List Tetrahedron) (d : Tetrahedron) (i j : ℕ) → NoTwice xs → i < length xs → j < length xs → slice_index_or xs i d ≡ slice_index_or xs j d → i ≡ j
+pub one_place : (xs : List Tetrahedron) (d : Tetrahedron) (i j : ℕ) → NoTwice xs → i < length xs → j < length xs → slice_index_or xs i d ≡ slice_index_or xs j d → i ≡ j
 one_place [] d i j once h k e = absurd (omega arith)
 one_place (x ∷ xs) d zero zero once h k e = refl
 one_place (x ∷ xs) d zero (suc j) once h k e = absurd (once.0 (slice_index_or xs j d) (stands xs d j (omega arith)) e)
@@ -251,7 +251,7 @@ one_place (x ∷ xs) d (suc i) zero once h k e = absurd (once.0 (slice_index_or 
     stands (x ∷ xs) d (suc j) h = inr (stands xs d j (omega arith))
 one_place (x ∷ xs) d (suc i) (suc j) once h k e = ap suc (one_place xs d i j once.1 (omega arith) (omega arith) e)
 
-root_first : (L : ℕ) (t : Tri) → walk L t 0 ≡ root_slot_of L (root_slot (corner_sum t))
+pub root_first : (L : ℕ) (t : Tri) → walk L t 0 ≡ root_slot_of L (root_slot (corner_sum t))
 unfolding walk root_slot_of
 root_first L t = refl
 
@@ -379,6 +379,22 @@ first_goes L M m P within k = ap (first_part P) (passes L M P) ∙ first_through
 
 pub second_goes : (L : ℕ) (M : Mesh) (m : ℕ) (P : Tetrahedron) → suc m ≤ 3 * L → Member (at_level L m) P → second_part P (through L M P) ≡ through L M (child_1 P)
 second_goes L M m P within k = ap (second_part P) (passes L M P) ∙ second_through L M m P within k ∙ sym (passes L M (child_1 P))
+
+-- a triangle goes through the root of its slot, and through no other
+pub root_on : (L : ℕ) (t : Tri) → goes_through L t (root_slot_of L (root_slot (corner_sum t))) ≡ true
+root_on L t =
+    goes L t (root_slot_of L (root_slot (corner_sum t)))
+    ∙ subst (λ S. on_path L t S ≡ true) (root_first L t) (walk-on_path L t 0 (omega arith))
+
+pub root_alone : (L slot : ℕ) (t : Tri) → slot < 6 → goes_through L t (root_slot_of L slot) ≡ true → slot ≡ root_slot (corner_sum t)
+unfolding is_in_root
+root_alone L slot t h on =
+    sym (eqb-true (root_slot (corner_sum t)) slot (in_root_on_path L slot t h ∙ sym (goes L t (root_slot_of L slot)) ∙ on))
+
+pub roots_apart : (L i j : ℕ) → i < 6 → j < 6 → root_slot_of L i ≡ root_slot_of L j → i ≡ j
+unfolding root_slot_of
+roots_apart L i j h k e =
+    one_place (roots L) (record { level = 0; corners = [] }) i j (no_twice-differ (roots L) (level_differs L 0 (omega arith))) h k e
 
 -- those of a root
 pub root_goes : (L : ℕ) (M : Mesh) (slot : ℕ) → slot < 6 → root_part M slot ≡ through L M (root_slot_of L slot)

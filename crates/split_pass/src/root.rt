@@ -131,7 +131,7 @@ pub(crate) fn root_streams<B: Blob>(
 fn set_roots(leaves: &mut Leaves, l: u8, ids: [StreamId; 6]) -> Result<(), AllocError>
     requires bound { IsBound l }
     requires empty { leaves.old ≡ map.empty }
-    ensures names { OnOk result ((k : ℕ) (x : StreamId) → slice_get ids k ≡ Some x → (name : Tet) × (tetrahedron_of l name ≡ root_at l k) × (map.get leaves.new name ≡ Some x)) }
+    ensures names { OnOk result ((k : ℕ) (x : StreamId) → k < 6 → slice_get ids k ≡ Some x → (name : Tet) × (tetrahedron_of l name ≡ root_at l k) × (map.get leaves.new name ≡ Some x)) }
     ensures only { OnOk result ((name : Tet) (x : StreamId) → map.get leaves.new name ≡ Some x → (k : ℕ) × (k < 6) × (slice_get ids k ≡ Some x) × (tetrahedron_of l name ≡ root_at l k)) }
 {
     'slots: for slot in 0..6 {
