@@ -10,16 +10,20 @@ use Rattle.tpz_base.specs.declared.shape.Tri.{Tri}
 use Rattle.tpz_base.specs.Meshes.{Mesh}
 use Rattle.tpz_base.specs.Roots.{corner_sum, root_part, root_slot}
 use Rattle.tpz_base.specs.Tetrahedra.{Tetrahedron, roots}
+use Rattle.tpz_base.specs.Diamonds.{level_of}
+use Rattle.tpz_base.specs.declared.shape.Point.{Point}
+use Rattle.tpz_base.proofs.Distinct.{at_its_level}
+use Rattle.diamond_graph.specs.Closed.{closure}
 use Rattle.tetra_name.specs.declared.shape.Tet.{Tet}
-use Rattle.tetra_name.specs.Names.{root_at, tetrahedron_of, IsName}
+use Rattle.tetra_name.specs.Names.{point_of, root_at, tetrahedron_of, IsName}
 use Rattle.tetra_name.proofs.EveryName.{names_each}
-use Rattle.tetra_name.proofs.NameFacts.{member-contains, some_is}
+use Rattle.tetra_name.proofs.NameFacts.{member-contains, name_level, some_is}
 use Rattle.tri_stream.specs.declared.names.StreamId.{StreamId}
 use Rattle.tri_stream.specs.Streams.{StreamsState, count_of, size_of, told_list, total, IsLive, LeavesOthers}
 use Rattle.tri_stream.proofs.Changes.{live_as_before, live_differs, same_name}
 use Rattle.assign.specs.Names.{tet_cmp, LeafTable}
 use Rattle.assign.proofs.NameTables.{same_tet, set_here, set_rest}
-use Rattle.split_pass.specs.Crowds.{goes_through, through}
+use Rattle.split_pass.specs.Crowds.{goes_through, through, with_crowded}
 use Rattle.split_pass.specs.Moves.{AddsAll, IsNoneOf}
 use Rattle.split_pass.specs.Spread.{AllBelow, HoldsThrough, IsKeyed, IsNamed}
 use Rattle.split_pass.proofs.Crowding.{root_here, root_slot_of}
@@ -43,6 +47,19 @@ pub other_root : (L i j : ℕ) (a b : Tet) → i < 6 → j < 6 → tetrahedron_o
 other_root L i j a b hi hj ia ib ne = λ same.
     ne (roots_apart L i j hi hj (one_of (tetrahedron_of L a) (root_slot_of L i) (root_slot_of L j) (named_root L i a hi ia)
     (ap (tetrahedron_of L) same ∙ named_root L j b hj ib)))
+
+-- a root's name has level 0
+pub root_level : (L k : ℕ) (name : Tet) → k < 6 → tetrahedron_of L name ≡ root_at L k → level_of L (point_of name.centre) ≡ 0
+root_level L k name h is = name_level L name (root_slot_of L k) (named_root L k name h is) ∙ at_its_level L 0 (root_slot_of L k) (root_member L k h)
+
+-- what is added below a root, by the root's part
+pub by_root : (L n cap k : ℕ) (M : Mesh) (V W : List Point) → k < 6 → W ≡ closure L (with_crowded n cap (root_slot_of L k) (through L M (root_slot_of L k)) V)
+    → W ≡ closure L (with_crowded n cap (root_slot_of L k) (root_part M k) V)
+by_root L n cap k M V W h is = is ∙ ap (λ (N : Mesh). closure L (with_crowded n cap (root_slot_of L k) N V)) (sym (root_goes L M k h))
+
+pub much_root : (P : ℕ → Type 0) (L n cap k : ℕ) (M : Mesh) (V : List Point) → k < 6 → P (length (closure L (with_crowded n cap (root_slot_of L k) (through L M (root_slot_of L k)) V)))
+    → P (length (closure L (with_crowded n cap (root_slot_of L k) (root_part M k) V)))
+much_root P L n cap k M V h = subst (λ (N : Mesh). P (length (closure L (with_crowded n cap (root_slot_of L k) N V)))) (sym (root_goes L M k h))
 
 -- what is named by the first roots
 pub record NamesFirst (L n : ℕ) (ids : List StreamId) (leaves : LeafTable) : Type 0 where
