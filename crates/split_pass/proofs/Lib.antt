@@ -7,3 +7,4 @@ pub mod Placing
 mod Halving
 mod Searching
 mod Settling
+mod Leaving
