@@ -1,9 +1,9 @@
 -- The streams at which a search ended are those of the leaves: what goes through a tetrahedron that isn't split, and whose parent is, has it as its leaf.
-use Rattle.std.proofs.Common.{◌≡◌, ◌≢◌, ◌⊎◌, ◌+◌, ◌-◌, ◌*◌, ◌∷◌, ◌≤◌, ◌<◌, Bool, true, false, Some, None, Option, ℕ, zero, suc, List, [], length, refl, sym, ◌∙◌, ap, subst, inl, inr, true≢false, arith}
+use Rattle.std.proofs.Common.{◌≡◌, ◌+◌, ◌-◌, ◌*◌, ◌∷◌, ◌≤◌, ◌<◌, Bool, true, false, Some, None, Option, ℕ, zero, suc, List, [], length, refl, sym, ◌∙◌, ap, subst, inl, inr, true≢false, arith}
 use Rattle.std.specs.Prelude.{not, filter, find, Contains}
 use Rattle.std.specs.FinMap.{get}
-use Rattle.std.specs.Option.{ForSome, option_map, option_map_or, unwrap_or}
-use Rattle.std.proofs.lemmas.Bool.{cases_Bool, false_from_ne_true, or_left, or_right}
+use Rattle.std.specs.Option.{option_map, option_map_or, unwrap_or}
+use Rattle.std.proofs.lemmas.Bool.{cases_Bool, or_left, or_right}
 use Rattle.std.proofs.lemmas.List.Elements.{filter_agree}
 use Rattle.tpz_base.specs.declared.shape.Point.{Point}
 use Rattle.tpz_base.specs.declared.shape.Tri.{Tri}
@@ -16,7 +16,7 @@ use Rattle.tpz_base.proofs.Diamonds.{child_at, in_levels, is_parent-child, level
 use Rattle.tpz_base.proofs.Distinct.{at_its_level}
 use Rattle.tpz_base.proofs.Members.{tetrahedron_eq-true, tetrahedron_eq_refl}
 use Rattle.tetra_name.specs.declared.shape.Tet.{Tet}
-use Rattle.tetra_name.specs.Names.{point_of, tetrahedron_of, IsName}
+use Rattle.tetra_name.specs.Names.{tetrahedron_of, IsName}
 use Rattle.tetra_name.proofs.EveryName.{names_each}
 use Rattle.tetra_name.proofs.NameFacts.{contains-member, member-contains, some_is}
 use Rattle.tri_stream.specs.declared.names.StreamId.{StreamId}
