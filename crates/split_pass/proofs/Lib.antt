@@ -8,3 +8,4 @@ mod Halving
 mod Searching
 mod Settling
 mod RootNames
+mod Leaving
