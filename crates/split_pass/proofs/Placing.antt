@@ -36,11 +36,11 @@ walk_step : (L : ℕ) (t : Tri) (m : ℕ) → walk L t (suc m) ≡ entered t (wa
 unfolding walk
 walk_step L t m = refl
 
-not_false : (b : Bool) → not b ≡ true → b ≡ false
+pub not_false : (b : Bool) → not b ≡ true → b ≡ false
 not_false true h = absurd (true≢false (sym h))
 not_false false h = refl
 
-not_true : (b : Bool) → not b ≡ false → b ≡ true
+pub not_true : (b : Bool) → not b ≡ false → b ≡ true
 not_true true h = refl
 not_true false h = absurd (true≢false h)
 

@@ -1,5 +1,5 @@
 -- A named stream without triangles ends with its name.
-use Rattle.std.proofs.Common.{◌≡◌, ◌≢◌, ℕ, [], ◌∷◌, List, Option, Some, None, length, refl, sym, ◌∙◌, ap, inl, inr}
+use Rattle.std.proofs.Common.{◌≡◌, ◌≢◌, ◌≤◌, ℕ, zero, suc, [], ◌∷◌, List, Option, Some, None, false, length, refl, sym, ◌∙◌, ap, inl, inr, ◌⊎◌, arith}
 use Rattle.std.specs.Prelude.{Contains}
 use Rattle.std.specs.Option.{ForSome, option_map, unwrap_or}
 use Rattle.std.specs.FinMap.{get, remove}
@@ -9,8 +9,10 @@ use Rattle.tpz_base.specs.Tetrahedra.{Tetrahedron}
 use Rattle.tpz_base.proofs.CutLaw.{Member}
 use Rattle.tpz_base.proofs.Members.{filter-member}
 use Rattle.tetra_name.specs.declared.shape.Tet.{Tet}
-use Rattle.tetra_name.specs.Names.{tetrahedron_of}
-use Rattle.tetra_name.proofs.NameFacts.{contains-member}
+use Rattle.tpz_base.specs.declared.shape.Point.{Point}
+use Rattle.tpz_base.specs.Cuts.{has_diamond}
+use Rattle.tetra_name.specs.Names.{point_of, tetrahedron_of, IsName}
+use Rattle.tetra_name.proofs.NameFacts.{contains-member, some_is}
 use Rattle.tri_stream.specs.declared.names.StreamId.{StreamId}
 use Rattle.tri_stream.specs.Lists.{list_at}
 use Rattle.tri_stream.specs.Streams.{StreamsState, count_of, list_of, size_of, told_list, IsLive, LeavesOthers}
@@ -18,7 +20,7 @@ use Rattle.tri_stream.proofs.Changes.{live_as_before, live_differs}
 use Rattle.assign.specs.Names.{LeafTable}
 use Rattle.assign.proofs.NameTables.{same_tet}
 use Rattle.split_pass.specs.Crowds.{goes_through, through}
-use Rattle.split_pass.specs.Spread.{HoldsThrough, IsKeyed, IsNamed}
+use Rattle.split_pass.specs.Spread.{AllBelow, HoldsThrough, IsKept, IsKeyed, IsNamed, IsSettled, IsSettling}
 use Rattle.split_pass.proofs.Halving.{removed_here, removed_rest}
 
 both_some : {X : Type 0} (o : Option X) (x y : X) → o ≡ Some x → o ≡ Some y → x ≡ y
@@ -105,3 +107,54 @@ none_of_none (Some (t ∷ M)) e = absurd cc
 pub empty_list : (s : StreamsState) (id : StreamId) (bytes : List ℕ) → size_of s id ≡ 0 → list_of s bytes id ≡ []
 unfolding count_of list_of
 empty_list s id bytes e = none_of_none (list_at s.lists id.place) e
+
+-- a named stream's name is that of a tetrahedron
+pub below_name : (L : ℕ) (F : List Point) (m : LeafTable) (name : Tet) (id : StreamId) → AllBelow L F m → get m name ≡ Some id → IsName L name
+unfolding IsName
+below_name L F m name id all here = let b = all name id here in some_is (tetrahedron_of L name) b.0 b.1
+
+-- one stream is settled, and the others are kept
+pub settled_here : (F : List Point) (name : Tet) (id : StreamId) (m : LeafTable) (s : StreamsState) (n : ℕ) → get m name ≡ Some id → has_diamond F (point_of name.centre) ≡ false
+    → count_of s id ≡ Some n → n ≢ 0 → IsSettling F name m m s s
+settled_here F name id m s n here whole count more = λ other x is.
+    elim (same_tet other name) [
+      | inl e ↦
+          let same : x ≡ id = both_some (get m name) x id (sym (ap (get m) e) ∙ is) here in
+          let size : size_of s x ≡ n = ap (size_of s) same ∙ ap (λ o. unwrap_or o 0) count in
+          inl (record { whole = ap (λ (t : Tet). has_diamond F (point_of t.centre)) e ∙ whole; some = at_least (size_of s x) n size more })
+      | inr ne ↦ inr (record { differs = ne; was = is; size = refl })
+    ]
+  where
+    at_least : (a b : ℕ) → a ≡ b → b ≢ 0 → 1 ≤ a
+    at_least zero b e more = absurd (more (sym e))
+    at_least (suc a) b e more = omega arith
+
+-- an empty stream has ended
+pub settled_end : (F : List Point) (name : Tet) (id : StreamId) (m m' : LeafTable) (s s' : StreamsState) → IsKeyed m s → get m name ≡ Some id → get m' name ≡ None
+    → ((other : Tet) → other ≢ name → get m' other ≡ get m other) → ((x : StreamId) → x ≢ id → size_of s' x ≡ size_of s x) → IsSettling F name m m' s s'
+settled_end F name id m m' s s' keyed here gone rest sizes = λ other x is.
+    elim (same_tet other name) [
+      | inl e ↦ absurd (none_some (get m' name) x gone (sym (ap (get m') e) ∙ is))
+      | inr ne ↦
+          let was : get m other ≡ Some x = sym (rest other ne) ∙ is in
+          inr (record { differs = ne; was = was; size = sizes x (λ same. ne (keyed.one other name id (was ∙ ap Some same) here)) })
+    ]
+
+-- a stream is divided, and then the children's are settled one after the other
+pub settled_both : (F : List Point) (name first second : Tet) (m m1 m2 m3 : LeafTable) (s s1 s2 s3 : StreamsState)
+    → get m1 name ≡ None → ((other : Tet) → other ≢ name → other ≢ first → other ≢ second → get m1 other ≡ get m other)
+    → ((other : Tet) (x : StreamId) → other ≢ first → other ≢ second → get m1 other ≡ Some x → size_of s1 x ≡ size_of s x)
+    → IsSettling F first m1 m2 s1 s2 → IsSettling F second m2 m3 s2 s3 → IsSettling F name m m3 s s3
+settled_both F name first second m m1 m2 m3 s s1 s2 s3 gone rest sizes one two = λ other x is.
+    elim (two other x is) [
+      | inl done ↦ inl done
+      | inr k ↦ elim (one other x k.was) [
+        | inl done ↦ inl (record { whole = done.whole; some = more (size_of s3 x) (size_of s2 x) k.size done.some })
+        | inr j ↦
+            let ne : other ≢ name = λ e. none_some (get m1 name) x gone (sym (ap (get m1) e) ∙ j.was) in
+            inr (record { differs = ne; was = sym (rest other ne j.differs k.differs) ∙ j.was; size = k.size ∙ j.size ∙ sizes other x j.differs k.differs j.was })
+      ]
+    ]
+  where
+    more : (a b : ℕ) → a ≡ b → 1 ≤ b → 1 ≤ a
+    more a b e h = omega arith

@@ -5,7 +5,7 @@ ghost use Rattle.std.specs.FinMap as map;
 ghost use Rattle.tpz_base.specs.Meshes.{Mesh};
 ghost use Rattle.tetra_name.specs.declared.shape.Tet.{Tet};
 ghost use Rattle.tetra_name.specs.Names.{IsBound, IsName};
-ghost use Rattle.diamond_graph.specs.Graphs.{centres};
+ghost use Rattle.diamond_graph.specs.Graphs.{centres, IsGraph};
 ghost use Rattle.tri_stream.specs.declared.names.StreamId.{StreamId};
 ghost use Rattle.tri_stream.specs.Streams.{size_of, total, Stands, Stays};
 ghost use Rattle.split_pass.specs.declared.fault.SplitFault.{SplitFault};
@@ -58,6 +58,7 @@ fn settle<B: Blob>(
     l: u8,
 ) -> Result<(), SplitFault>
     requires l { graph.now.l ≡ l }
+    requires graph { IsGraph graph.now }
     requires bound { IsBound l }
     requires below { AllBelow l (centres graph.now) leaves.old }
     requires keyed { IsKeyed leaves.old streams.old }
