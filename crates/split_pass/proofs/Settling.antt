@@ -1,8 +1,9 @@
 -- A named stream without triangles ends with its name.
-use Rattle.std.proofs.Common.{◌≡◌, ◌≢◌, ◌≤◌, ℕ, zero, suc, [], ◌∷◌, List, Option, Some, None, false, length, refl, sym, ◌∙◌, ap, inl, inr, ◌⊎◌, arith}
+use Rattle.std.proofs.Common.{◌≡◌, ◌≢◌, ◌≤◌, ℕ, zero, suc, [], ◌∷◌, ◌<◌, ◌+◌, List, Option, Some, None, false, length, slice_index_or, refl, sym, ◌∙◌, ap, inl, inr, ◌⊎◌, arith}
 use Rattle.std.specs.Prelude.{Contains}
 use Rattle.std.specs.Option.{ForSome, option_map, unwrap_or}
 use Rattle.std.specs.FinMap.{get, remove}
+use Rattle.std.proofs.lemmas.Bool.{cases_eq}
 use Rattle.tpz_base.specs.declared.shape.Tri.{Tri}
 use Rattle.tpz_base.specs.Meshes.{Mesh}
 use Rattle.tpz_base.specs.Tetrahedra.{Tetrahedron}
@@ -158,3 +159,32 @@ settled_both F name first second m m1 m2 m3 s s1 s2 s3 gone rest sizes one two =
   where
     more : (a b : ℕ) → a ≡ b → 1 ≤ b → 1 ≤ a
     more a b e h = omega arith
+
+-- a name that stands in a list at a place or behind it
+abbrev pub IsToCome : List Tet → ℕ → Tet → Type 0
+IsToCome names i name = (k : ℕ) × (i ≤ k) × (k < length names) × (slice_index_or names k name ≡ name)
+
+-- the name at a place is settled, and the places behind it are to come
+pub settled_next : (F : List Point) (names : List Tet) (i : ℕ) (name : Tet) (m m' : LeafTable) (s s' : StreamsState) → ((d : Tet) → slice_index_or names i d ≡ name)
+    → IsSettling F name m m' s s' → ((other : Tet) (x : StreamId) → get m other ≡ Some x → IsSettled F s other x ⊎ IsToCome names i other)
+    → (other : Tet) (x : StreamId) → get m' other ≡ Some x → IsSettled F s' other x ⊎ IsToCome names (i + 1) other
+settled_next F names i name m m' s s' at settles before other x is =
+    elim (settles other x is) [
+      | inl done ↦ inl done
+      | inr k ↦ elim (before other x k.was) [
+        | inl done ↦ inl (record { whole = done.whole; some = enough (size_of s' x) (size_of s x) k.size done.some })
+        | inr t ↦ elim (cases_eq t.0 i) [
+          | inl e ↦ absurd (k.differs (sym t.3 ∙ ap (λ n. slice_index_or names n other) e ∙ at other))
+          | inr ne ↦ let from = t.1 in inr (t.0, omega arith, t.2, t.3)
+        ]
+      ]
+    ]
+  where
+    enough : (a b : ℕ) → a ≡ b → 1 ≤ b → 1 ≤ a
+    enough a b e h = omega arith
+
+-- within a list the element at a place is the same whatever stands for none
+pub any_default : (names : List Tet) (i : ℕ) (d e : Tet) → i < length names → slice_index_or names i d ≡ slice_index_or names i e
+any_default [] i d e h = absurd (omega arith)
+any_default (n ∷ names) zero d e h = refl
+any_default (n ∷ names) (suc i) d e h = any_default names i d e (omega arith)
