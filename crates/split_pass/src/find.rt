@@ -1,6 +1,7 @@
 // The crowded tetrahedra are found, from the roots down.
-ghost use Rattle.std.specs.Prelude.{◌≡◌, ◌≢◌, ◌≤◌, ◌<◌, ◌+◌, ◌-◌, ◌*◌, ◌^◌, [], ℕ, List, Err, OnOk, length, is_some};
+ghost use Rattle.std.specs.Prelude.{◌≡◌, ◌≢◌, ◌≤◌, ◌<◌, ◌+◌, ◌-◌, ◌*◌, ◌^◌, [], ℕ, List, Err, None, OnOk, length, is_some};
 ghost use Rattle.std.specs.Option.{ForSome};
+ghost use Rattle.tpz_io.specs.Causes.{Rose};
 ghost use Rattle.tpz_base.specs.declared.shape.Point.{Point};
 ghost use Rattle.tpz_base.specs.Diamonds.{level_of};
 ghost use Rattle.tetra_name.specs.Names.{point_of, tetrahedron_of, IsBound, IsCentre, IsName};
@@ -50,6 +51,8 @@ fn find<B: Blob>(
     ensures l { closing.new.l ≡ l }
     ensures stays { Stays streams.old streams.new (B.held work.new) }
     ensures later { B.faults work.old ≤ B.faults work.new }
+    ensures work_fault { result ≡ Err SplitFault.WorkFault → Rose (B.faults work.old) (B.faults work.new) }
+    ensures work_damage { (offset : ℕ) → result ≡ Err (SplitFault.WorkDamage offset) → B.held work.old ≡ None }
     ensures telling { is_some (B.held work.new) ≡ is_some (B.held work.old) }
 {
     if streams.count(id) <= u64::from(cap) || level(name.centre, l) == 3 * l {
@@ -89,6 +92,8 @@ pub(crate) fn find_all<B: Blob>(
     ensures l { closing.new.l ≡ l }
     ensures stays { Stays streams.old streams.new (B.held work.new) }
     ensures later { B.faults work.old ≤ B.faults work.new }
+    ensures work_fault { result ≡ Err SplitFault.WorkFault → Rose (B.faults work.old) (B.faults work.new) }
+    ensures work_damage { (offset : ℕ) → result ≡ Err (SplitFault.WorkDamage offset) → B.held work.old ≡ None }
     ensures telling { is_some (B.held work.new) ≡ is_some (B.held work.old) }
 {
     let ids = root_streams(streams, work, whole)?;

@@ -1,7 +1,8 @@
 // Each triangle is put into the stream of its leaf.
-ghost use Rattle.std.specs.Prelude.{◌≡◌, ◌≢◌, ◌≤◌, ◌<◌, ◌+◌, ◌^◌, ◌↔◌, ◌⊎◌, ◌++◌, ◌∷◌, [], ℕ, List, Some, None, IfOk, OnOk, OnErr, IfErr, IsTrue, option_to_list, is_some};
+ghost use Rattle.std.specs.Prelude.{◌≡◌, ◌≢◌, ◌≤◌, ◌<◌, ◌+◌, ◌^◌, ◌↔◌, ◌⊎◌, ◌++◌, ◌∷◌, [], ℕ, List, Some, None, Err, IfOk, OnOk, OnErr, IfErr, IsTrue, option_to_list, is_some};
 ghost use Rattle.std.specs.Option.{ForSome, option_map, unwrap_or};
 ghost use Rattle.std.specs.FinMap as map;
+ghost use Rattle.tpz_io.specs.Causes.{Rose};
 ghost use Rattle.tetra_name.specs.declared.shape.Tet.{Tet};
 ghost use Rattle.tri_stream.specs.declared.names.StreamId.{StreamId};
 ghost use Rattle.tri_stream.specs.declared.names.Cursor.{Cursor};
@@ -42,8 +43,10 @@ fn place<B: Blob>(
         × Places leaf id t leaves.old leaves.new streams.old streams.new (B.held work.old) (B.held work.new)) }
     ensures stays { Stays streams.old streams.new (B.held work.new) }
     ensures later { B.faults work.old ≤ B.faults work.new }
+    ensures work_fault { result ≡ Err SplitFault.WorkFault → Rose (B.faults work.old) (B.faults work.new) }
+    ensures work_damage { (offset : ℕ) → result ≡ Err (SplitFault.WorkDamage offset) → B.held work.old ≡ None }
     ensures telling { is_some (B.held work.new) ≡ is_some (B.held work.old) }
-    ensures memory { IfErr result (λ fault. fault ≡ SplitFault.Memory) }
+    ensures few_records { IfErr result (λ fault. fault ≢ SplitFault.TooManyRecords) }
 {
     let leaf = leaf_of(graph, &t);
     let id = stream_of(streams, leaves, leaf)?;
@@ -72,8 +75,10 @@ pub(crate) fn place_all<B: Blob>(
     ensures total { OnOk result (total streams.new ≡ total streams.old + size_of streams.old whole) }
     ensures stays { Stays streams.old streams.new (B.held work.new) }
     ensures later { B.faults work.old ≤ B.faults work.new }
+    ensures work_fault { result ≡ Err SplitFault.WorkFault → Rose (B.faults work.old) (B.faults work.new) }
+    ensures work_damage { (offset : ℕ) → result ≡ Err (SplitFault.WorkDamage offset) → B.held work.old ≡ None }
     ensures telling { is_some (B.held work.new) ≡ is_some (B.held work.old) }
-    ensures memory { IfErr result (λ fault. fault ≡ SplitFault.Memory) }
+    ensures few_records { IfErr result (λ fault. fault ≢ SplitFault.TooManyRecords) }
 {
     let mut at = streams.start(whole);
     'triangles: while let Some(t) = streams.read(work, &mut at)? {

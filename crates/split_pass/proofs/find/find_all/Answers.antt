@@ -28,6 +28,7 @@ slots-init g c =
       level = c.requires.l;
       stays = c.in_ok-ids.ensures.stays;
       later = c.root_streams.ensures.later;
+      telling = c.root_streams.ensures.telling;
     }
 
 pub returns-in_err-find-clause-too_many : goal.returns-in_err-find-clause-too_many
@@ -84,6 +85,7 @@ slots-preserved g c =
         stands = c.in_ok-find.ensures.stays.stands;
       };
       later = let a = c.find.ensures.later in let d = inv.later in omega arith;
+      telling = c.find.ensures.telling ∙ inv.telling;
     }
 
 pub returns-clause-counts : goal.returns-clause-counts

@@ -1,6 +1,6 @@
 -- The diamonds below the roots so far have been added, and their streams have ended.
 use Rattle.std.proofs.Common.{◌≡◌, ◌≤◌, ◌<◌, ◌^◌, ℕ, Some, None, length}
-use Rattle.std.specs.Prelude.{slice_get}
+use Rattle.std.specs.Prelude.{is_some, slice_get}
 use Rattle.std.specs.Option.{ForSome}
 use Rattle.diamond_graph.specs.Closed.{closure}
 use Rattle.diamond_graph.specs.Adding.{most_centres}
@@ -28,4 +28,5 @@ invariant-slots g l =
       level : l.closing.l ≡ l.l;
       stays : Stays l.fn.streams l.streams (held l.work);
       later : g.B.Blob.faults l.fn.work ≤ g.B.Blob.faults l.work;
+      telling : is_some (held l.work) ≡ is_some (held l.fn.work);
     }

@@ -30,6 +30,7 @@ triangles-init g c =
       total = omega arith;
       stays = record { base = refl; l = refl; stands = c.requires.stands };
       later = omega arith;
+      telling = refl;
     }
 
 pub triangles-smaller : goal.triangles-smaller
@@ -95,6 +96,7 @@ triangles-preserved g c =
         stands = p.stays.stands;
       };
       later = let a = c.place.ensures.later in let b = read.later in let d = inv.later in omega arith;
+      telling = c.place.ensures.telling ∙ read.kept.front.same_telling ∙ inv.telling;
     }
 
 pub returns-clause-held : goal.returns-clause-held

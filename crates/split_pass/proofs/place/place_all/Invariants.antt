@@ -1,6 +1,6 @@
 -- The triangles that were read have been put into the streams of their leaves.
 use Rattle.std.proofs.Common.{◌≡◌, ◌≤◌, ◌+◌, ◌-◌}
-use Rattle.std.specs.Prelude.{take}
+use Rattle.std.specs.Prelude.{is_some, take}
 use Rattle.std.specs.Option.{ForSome}
 use Rattle.diamond_graph.specs.Graphs.{centres}
 use Rattle.tri_stream.specs.Streams.{count_of, told_list, total, Follows, size_of, Stays}
@@ -24,6 +24,7 @@ invariant-triangles g l =
       total : total l.streams ≡ total l.fn.streams + l.at.given;
       stays : Stays l.fn.streams l.streams (held l.work);
       later : g.B.Blob.faults l.fn.work ≤ g.B.Blob.faults l.work;
+      telling : is_some (held l.work) ≡ is_some (held l.fn.work);
     }
 
 abbrev pub decreases-triangles : goal.decreases-triangles
