@@ -1,6 +1,5 @@
 // A work file that tells nothing, and forgets what is written from a place on.
-ghost use Rattle.std.specs.Prelude.{◌≡◌, None};
-ghost use Rattle.tpz_io.specs.Causes.{HasCause, one_more};
+ghost use Rattle.std.specs.Prelude.{None};
 
 use std::alloc::{AllocError, Global};
 use tpz_io::{Blob, Failed};
@@ -22,6 +21,26 @@ impl Zeros {
     }
 }
 
+// Fills `into` with the bytes from a place on, and zeros where there are none.
+fn take(front: &[u8], at: u64, into: &mut [u8]) {
+    let mut place = at;
+    for byte in into.iter_mut() {
+        *byte = front.get(place as usize).copied().unwrap_or(0);
+        place = place.saturating_add(1);
+    }
+}
+
+// Puts bytes from a place on, as far as there is room.
+fn put(front: &mut [u8], at: u64, bytes: &[u8]) {
+    let mut place = at;
+    for byte in bytes {
+        if let Some(kept) = front.get_mut(place as usize) {
+            *kept = *byte;
+        }
+        place = place.saturating_add(1);
+    }
+}
+
 impl Blob for Zeros {
     ghost held = { λ z. None };
 
@@ -38,22 +57,12 @@ impl Blob for Zeros {
 
     fn read_at(&mut self, at: u64, into: &mut [u8]) -> Result<(), Failed> {
         self.reads = self.reads.saturating_add(1);
-        let mut place = at;
-        for byte in into.iter_mut() {
-            *byte = self.front.get(place as usize).copied().unwrap_or(0);
-            place = place.saturating_add(1);
-        }
+        take(&self.front, at, into);
         Ok(())
     }
 
     fn write_at(&mut self, at: u64, bytes: &[u8]) -> Result<(), Failed> {
-        let mut place = at;
-        for byte in bytes {
-            if let Some(kept) = self.front.get_mut(place as usize) {
-                *kept = *byte;
-            }
-            place = place.saturating_add(1);
-        }
+        put(&mut self.front, at, bytes);
         Ok(())
     }
 
