@@ -1,9 +1,9 @@
 -- What a run of `build` says: where memory ran out before it began, where no store was built, and where only the note was left to write.
 use Rattle.std.proofs.Common.{◌≡◌, ◌≤◌, ◌<◌, ℕ, ◌⊎◌, List, [], ◌∷◌, length, refl, sym, ◌∙◌, subst, inl, inr, arith}
-use Rattle.std.specs.Prelude.{is_some, Option, Some, None, Result, Ok, Err}
+use Rattle.std.specs.Prelude.{is_some, Option, Some, None, Ok, Err}
 use Rattle.std.specs.Option.{ForSome}
 use Rattle.tpz_io.specs.Causes.{one_more}
-use Rattle.tpz_io.specs.Writes.{Note, Wrote, WrotePrefix}
+use Rattle.tpz_io.specs.Writes.{Note, Wrote}
 use Rattle.tpz_base.specs.Texts.{Bytes, Face}
 use Rattle.tpz_base.specs.Cubes.{Row}
 use Rattle.ply_body.specs.Inputs.{Refusal, mesh_of}

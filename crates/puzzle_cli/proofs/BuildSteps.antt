@@ -1,10 +1,10 @@
 -- From a stream that was split and built to the store of an input, and from a line to a note.
 use Rattle.std.proofs.Common.{◌≡◌, ◌⊎◌, ℕ, List, [], ◌∷◌, ◌++◌, inl, inr, length, refl, sym, ◌∙◌, ap, ap₂, subst}
-use Rattle.std.specs.Prelude.{◌≤◌, ℤ, unsigned_abs, All, Option, Some, None, Result, Ok, Err, pos}
+use Rattle.std.specs.Prelude.{◌≤◌, ℤ, unsigned_abs, All, Option, Some, None, Result, Err, pos}
 use Rattle.std.specs.List.{slice_index_or}
 use Rattle.tpz_base.specs.declared.shape.Point.{Point}
 use Rattle.tpz_base.specs.Meshes.{Mesh}
-use Rattle.tpz_base.specs.Cubes.{Row, level_bound}
+use Rattle.tpz_base.specs.Cubes.{Row}
 use Rattle.tpz_base.specs.Texts.{Bytes, Face}
 use Rattle.tpz_io.specs.Told.{followed_by}
 use Rattle.tpz_io.specs.Writes.{Note, Wrote}

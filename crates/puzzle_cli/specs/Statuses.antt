@@ -1,5 +1,5 @@
 -- The exit status and the line on standard error of each way in which a run ends.
-use Rattle.std.specs.Prelude.{◌≡◌, ◌⊎◌, ℕ, ℤ, List, ◌++◌, codes, decimal}
+use Rattle.std.specs.Prelude.{◌≡◌, ◌⊎◌, ℕ, List, ◌++◌, codes, decimal}
 use Rattle.std.specs.Fmt.{signed_decimal}
 use Rattle.ply_head.specs.declared.fault.HeadFault.{HeadFault}
 use Rattle.ply_head.specs.declared.fault.HeadFault.TheVariants as head

@@ -1,5 +1,5 @@
 -- The store is claimed, the input read, and its stream built.
-use Rattle.std.proofs.Common.{◌≡◌, ◌≤◌, ◌<◌, Err, ap, length, refl, subst, inl, inr, sym, ◌∙◌, ◌⊎◌}
+use Rattle.std.proofs.Common.{◌≡◌, ◌≤◌, ◌<◌, Err, ap, length, refl, subst, inl, inr, sym, ◌∙◌, ◌⊎◌, arith}
 use Rattle.std.specs.Option.{ForSome}
 use Rattle.diamond_graph.specs.Adding.{most_centres}
 use Rattle.ply_body.specs.Inputs.{mesh_of}

@@ -1,4 +1,4 @@
-use Rattle.std.proofs.Common.{refl, sym, ◌∙◌, ap, subst}
+use Rattle.std.proofs.Common.{refl, sym, ◌∙◌, subst}
 use Rattle.tpz_base.specs.Cubes.{low_of}
 use Rattle.ply_body.proofs.CubeRows.{frame_spots}
 use Rattle.puzzle_cli.specs.Statuses.{IsRefused}

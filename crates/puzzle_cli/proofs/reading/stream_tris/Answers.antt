@@ -1,4 +1,4 @@
-use Rattle.std.proofs.Common.{◌≡◌, ℕ, ◌+◌, length, refl, sym, ◌∙◌, ap, subst, arith, [], ◌∷◌, ◌++◌, Ok, Err}
+use Rattle.std.proofs.Common.{ℕ, ◌+◌, refl, sym, ◌∙◌, ap, subst, arith, [], ◌∷◌, ◌++◌, Ok}
 use Rattle.std.specs.Option.{ForSome}
 use Rattle.std.proofs.lemmas.List.{length_push}
 use Rattle.std.proofs.lemmas.List.Elements.{All-nil, All-push}
@@ -6,9 +6,9 @@ use Rattle.tri_stream.specs.Lists.{IsHeld}
 use Rattle.tpz_base.specs.Cubes.{IsTriInCube}
 use Rattle.tri_stream.specs.Streams.{Stands}
 use Rattle.puzzle_cli.specs.Leaves.{Fills}
-use Rattle.puzzle_cli.specs.Statuses.{body_status, IsRefused}
+use Rattle.puzzle_cli.specs.Statuses.{IsRefused}
 use Rattle.puzzle_cli.proofs.Filling.{fills_none, fills_one, still_live}
-use Rattle.puzzle_cli.proofs.ReadLemmas.{none_read, more_read, read_refused, read_all, none_whole, one_whole, no_more_whole, same_status, not_refused_yet, refusal_of_body, given_before, lost_before, points_kept, fronts_join, same_front, AllLost, KeepsFront, OneGiven}
+use Rattle.puzzle_cli.proofs.ReadLemmas.{none_read, more_read, read_refused, read_all, none_whole, one_whole, no_more_whole, same_status, not_refused_yet, refusal_of_body, given_before, lost_before, points_kept, fronts_join, same_front, KeepsFront}
 use Rattle.puzzle_cli.proofs.reading.stream_tris.Goals as goal
 
 pub tris-init : goal.tris-init
