@@ -1,26 +1,10 @@
--- What a fault of streams, and of a split, is told as, and that a status of the work file was one.
-use Rattle.std.proofs.Common.{◌≡◌, ◌⊎◌, ◌∙◌, ℕ, Result, Err, inl, inr, refl, subst, sym}
-use Rattle.tri_stream.specs.declared.fault.StreamFault.{StreamFault}
-use Rattle.tri_stream.specs.declared.fault.StreamFault.TheVariants as stream
+-- What a fault of a split is told as, and that a status of the work file was one.
+use Rattle.std.proofs.Common.{◌≡◌, ◌⊎◌, ◌∙◌, ℕ, inl, inr, refl, subst, sym}
 use Rattle.split_pass.specs.declared.fault.SplitFault.{SplitFault}
 use Rattle.split_pass.specs.declared.fault.SplitFault.TheVariants as split
 use Rattle.puzzle_cli.specs.declared.status.Status.{Status}
 use Rattle.puzzle_cli.specs.declared.status.Status.TheVariants as status
-use Rattle.puzzle_cli.specs.Statuses.{split_status, stream_status, IsOfStore, IsOfStreams, IsRefused, IsUnbuilt}
-
-pub stream_told : (s : Status) (f : StreamFault) → s ≡ stream_status f → IsOfStreams s
-stream_told s stream.WorkFault is = inr (inl is)
-stream_told s (stream.WorkDamage offset) is = inr (inr (offset, is))
-
-pub was_fault : {X Y : Type 0} (r : Result X StreamFault) (s : Result Y Status) (f : StreamFault) (y : Status) → r ≡ Err f → y ≡ stream_status f → s ≡ Err y
-    → s ≡ Err status.WorkFault → r ≡ Err stream.WorkFault
-was_fault r s stream.WorkFault y is gives was e = is
-was_fault r s (stream.WorkDamage offset) y is gives was e = absurd cc
-
-pub was_damage : {X Y : Type 0} (r : Result X StreamFault) (s : Result Y Status) (f : StreamFault) (y : Status) → r ≡ Err f → y ≡ stream_status f → s ≡ Err y
-    → (offset : ℕ) → s ≡ Err (status.WorkDamage offset) → r ≡ Err (stream.WorkDamage offset)
-was_damage r s stream.WorkFault y is gives was offset e = absurd cc
-was_damage r s (stream.WorkDamage n) y is gives was offset e = cc
+use Rattle.puzzle_cli.specs.Statuses.{split_status, IsOfStore, IsOfStreams, IsRefused, IsUnbuilt}
 
 pub split_told : (s : Status) (f : SplitFault) → s ≡ split_status f → (s ≡ status.TooManyRecords) ⊎ IsOfStreams s
 split_told s split.TooManyRecords is = inl is
