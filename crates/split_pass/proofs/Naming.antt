@@ -1,17 +1,12 @@
 -- A name that is set in a table of leaves, and a triangle that is put into the stream of its leaf.
-use Rattle.std.proofs.Common.{◌≡◌, ◌≢◌, ◌⊎◌, true, cond, ◌+◌, ◌++◌, ◌∷◌, Some, None, Option, ℕ, List, [], refl, sym, ◌∙◌, ap, subst, inl, inr, true≢false, arith}
+use Rattle.std.proofs.Common.{◌≡◌, ◌≢◌, ◌⊎◌, cond, ◌+◌, ◌++◌, ◌∷◌, Some, None, Option, ℕ, List, [], sym, ◌∙◌, ap, subst, inl, inr, arith}
 use Rattle.std.specs.Prelude.{is_some}
-use Rattle.std.specs.Option.{ForSome, option_map, unwrap_or}
-use Rattle.std.specs.Ordering.{eq_by_cmp}
-use Rattle.std.specs.FinMap.{get, insert, get-insert}
-use Rattle.std.proofs.lemmas.Bool.{cases_Bool}
-use Rattle.std.proofs.lemmas.Cmp.{eq_by_cmp_equiv}
-use Rattle.std.proofs.lemmas.Map.Views.{tells_apart}
+use Rattle.std.specs.Option.{ForSome, option_map}
+use Rattle.std.specs.FinMap.{get}
 use Rattle.tetra_name.specs.declared.shape.Tet.{Tet}
 use Rattle.tri_stream.specs.declared.names.StreamId.{StreamId}
-use Rattle.tri_stream.specs.Streams.{StreamsState, count_of, list_of, told_list, total, Follows, IsLive, LeavesOthers, Stands, size_of}
-use Rattle.assign.specs.Names.{tet_cmp, LeafTable}
-use Rattle.assign.proofs.TableLaw.{tet_cmp_same, tet_cmp_total}
+use Rattle.tri_stream.specs.Streams.{StreamsState, count_of, list_of, told_list, total, Follows, IsLive, LeavesOthers, Stands}
+use Rattle.assign.specs.Names.{LeafTable}
 use Rattle.tpz_base.specs.declared.shape.Point.{Point}
 use Rattle.tpz_base.specs.declared.shape.Tri.{Tri}
 use Rattle.tpz_base.specs.Tetrahedra.{Tetrahedron}
@@ -21,7 +16,7 @@ use Rattle.assign.specs.Standing.{IsLeafOf, NamesStreams}
 use Rattle.assign.specs.Naming.{Names}
 use Rattle.assign.proofs.NameTables.{same_tet, some_same}
 use Rattle.split_pass.specs.Moves.{IsTidy, Places}
-use Rattle.tri_stream.proofs.Changes.{live_differs, same_name, Makes}
+use Rattle.tri_stream.proofs.Changes.{live_differs, same_name}
 
 -- What `append` says.
 pub record Appends (id : StreamId) (t : Tri) (old new : StreamsState) (before now : Option (List ℕ)) : Type 0 where
