@@ -10,6 +10,7 @@ pub mod Completing
 pub mod BuildRuns
 pub mod BuildSteps
 pub mod SplitMesh
+pub mod StreamFaults
 pub mod WorkedWords
 pub mod Parses
 pub mod Givens

@@ -1,5 +1,5 @@
 -- What the lines of a script make of a store.
-use Rattle.std.specs.Prelude.{ℕ, suc, ◌*◌, length, List, [], ◌∷◌, ◌++◌, slice_get, Option, Some, None, option_map, option_and_then, Result, Ok, Err, codes, decimal, ℤ, ◌-ℤ◌}
+use Rattle.std.specs.Prelude.{ℕ, suc, ◌*◌, length, List, [], ◌∷◌, ◌++◌, slice_get, Option, Some, None, option_and_then, Result, Ok, Err, codes, decimal, ℤ, ◌-ℤ◌}
 use Rattle.std.specs.Option.{option_or}
 use Rattle.tpz_io.specs.Writes.{Item, Part}
 use Rattle.tpz_base.specs.declared.shape.Point.{Point}

@@ -91,7 +91,8 @@ pub record BuildRun (digits : Option ℕ) (cap budget : ℕ) (left worked held h
       × (most_centres < length (finest_split (Some cap) rows faces) → (answer ≡ status.TooManyRecords) ⊎ (answer ≡ status.Memory)))
       × ((r : Refusal) → input_for digits bytes ≡ Err r → (answer ≡ status_of r) ⊎ (answer ≡ status.Memory)))))
   -- what is left of the store: before it is begun it stays, and then it reads as too short or unfinished, or is whole
-  pub before : ¬ (answer ≡ status.Ok) → ¬ (answer ≡ status.OutFault) → ¬ (answer ≡ status.StoreFault) → ¬ (answer ≡ status.Memory) → held' ≡ held
+  pub before : ¬ (answer ≡ status.Ok) → ¬ (answer ≡ status.OutFault) → ¬ (answer ≡ status.StoreFault) → ¬ (answer ≡ status.Memory)
+      → ¬ (answer ≡ status.WorkFault) → ((offset : ℕ) → ¬ (answer ≡ status.WorkDamage offset)) → held' ≡ held
   pub after : ¬ (answer ≡ status.Ok) → ForSome left (λ bytes. ForSome worked (λ _. (rows : List Row) (faces : List Face)
       → input_for digits bytes ≡ Ok (record { rows = rows; faces = faces }) → IsLeft held held' (input_store cap budget (digits_of digits bytes) rows faces)))
   pub left_over : IsLeftOver held held'

@@ -1,7 +1,7 @@
 -- The patches that a cut shows of a store's blocks.
-use Rattle.std.specs.Prelude.{◌≡◌, ◌==◌, ℕ, suc, Bool, true, false, not, List, [], ◌∷◌, ◌++◌, length, map, flat_map, slice_get, Option, Some, None, Result, Ok, Err, if◌then◌else◌}
+use Rattle.std.specs.Prelude.{◌≡◌, ◌==◌, ℕ, suc, Bool, true, false, List, [], ◌∷◌, length, flat_map, slice_get, Option, Result, Ok, Err, if◌then◌else◌}
 use Rattle.std.specs.Int.{bit_at}
-use Rattle.std.specs.Option.{ForSome, option_map_or}
+use Rattle.std.specs.Option.{option_map_or}
 use Rattle.tpz_base.specs.declared.shape.Point.{Point}
 use Rattle.tpz_base.specs.Meshes.{Mesh}
 use Rattle.tpz_base.specs.Tetrahedra.{parts}
@@ -11,7 +11,7 @@ use Rattle.diamond_graph.specs.Graphs.{GraphState}
 use Rattle.patch_file.specs.Patches.{outer_patches}
 use Rattle.patch_file.specs.Reading.{ReaderState, IsOpened}
 use Rattle.patch_file.specs.Stores.{table_of}
-use Rattle.patch_file.specs.Tables.{Table, TableRecord}
+use Rattle.patch_file.specs.Tables.{Table}
 use Rattle.patch_file.specs.Asking.{risen}
 use Rattle.tpz_base.specs.Texts.{Bytes}
 use Rattle.view_cut.specs.Views.{counted_by}

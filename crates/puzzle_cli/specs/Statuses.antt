@@ -1,11 +1,13 @@
 -- The exit status and the line on standard error of each way in which a run ends.
-use Rattle.std.specs.Prelude.{ℕ, ℤ, List, ◌++◌, codes, decimal}
+use Rattle.std.specs.Prelude.{◌≡◌, ◌⊎◌, ℕ, List, ◌++◌, codes, decimal}
 use Rattle.std.specs.Fmt.{signed_decimal}
 use Rattle.ply_head.specs.declared.fault.HeadFault.{HeadFault}
 use Rattle.ply_head.specs.declared.fault.HeadFault.TheVariants as head
 use Rattle.ply_body.specs.declared.fault.BodyFault.{BodyFault}
 use Rattle.ply_body.specs.declared.fault.BodyFault.TheVariants as body
 use Rattle.ply_body.specs.Inputs.{Refusal, InHead, InBody}
+use Rattle.tri_stream.specs.declared.fault.StreamFault.{StreamFault}
+use Rattle.tri_stream.specs.declared.fault.StreamFault.TheVariants as stream
 use Rattle.split_pass.specs.declared.fault.SplitFault.{SplitFault}
 use Rattle.split_pass.specs.declared.fault.SplitFault.TheVariants as split
 use Rattle.patch_file.specs.declared.shape.StoreBad.{StoreBad}
@@ -143,9 +145,16 @@ body_status body.InputFault = InputFault
 body_status body.WorkFault = WorkFault
 body_status (body.WorkDamage offset) = WorkDamage offset
 
+-- the status of a fault of streams
+abbrev pub stream_status : StreamFault → Status
+stream_status stream.WorkFault = WorkFault
+stream_status (stream.WorkDamage offset) = WorkDamage offset
+
 -- the status of a fault of a split
 abbrev pub split_status : SplitFault → Status
 split_status split.TooManyRecords = TooManyRecords
+split_status split.WorkFault = WorkFault
+split_status (split.WorkDamage offset) = WorkDamage offset
 split_status split.Memory = Memory
 
 -- the status of a store that isn't claimed
@@ -155,6 +164,8 @@ claim_status claim.StoreFault = StoreFault
 
 -- the status of a store that isn't built
 abbrev pub build_status : BuildFault → Status
+build_status build.WorkFault = WorkFault
+build_status (build.WorkDamage offset) = WorkDamage offset
 build_status build.StoreFault = StoreFault
 build_status build.Memory = Memory
 
@@ -182,6 +193,10 @@ IsUnread TooManyRecords = ⊥
 IsUnread (BadStore why) = ⊥
 IsUnread (ReadFault at) = ⊥
 IsUnread _ = Unit {0}
+
+-- what calls on streams, and what takes memory for their triangles, may end with
+abbrev pub IsOfStreams : Status → Type 0
+IsOfStreams status = (status ≡ Memory) ⊎ ((status ≡ WorkFault) ⊎ ((offset : ℕ) × (status ≡ WorkDamage offset)))
 
 -- what a build may end with that wrote no store
 abbrev pub IsUnbuilt : Status → Type 0

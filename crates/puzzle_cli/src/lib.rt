@@ -40,7 +40,7 @@ use tpz_io::{Blob, Out, Source};
 /// Runs the command that the words ask for. It always returns.
 ///
 /// `finest` reads a PLY mesh from `input`, and writes its triangles leaf by leaf as one part of `out`, in the input's
-/// scaled coordinates, and then its note. It keeps the points in `work`, whose bytes it overwrites. `build` reads a mesh as `finest` does, and writes the store of it into `store`, which must be
+/// scaled coordinates, and then its note. It keeps the points in `work`, whose bytes it overwrites, and with a cap the triangles behind them. `build` reads a mesh as `finest` does, and writes the store of it into `store`, which must be
 /// empty, and then its note. `gen` writes a mesh of
 /// a formula as one part of `out`, and then its note. `info` reads the head of `store`, and writes what it says as a note. `replay` takes the
 /// lines of `script` over the store in `store`, writes a part of `out` for each that says so, and then its note. `tour` does what `build` does, and then what `replay` does. A device that the command doesn't touch is left as it was. No call

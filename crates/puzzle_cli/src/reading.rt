@@ -257,7 +257,7 @@ fn stream_tris<I: Source, W: Blob>(
 }
 
 /// Reads an input with these digits, or with those that the types of its coordinates set, into a stream. Its points go to
-/// the work file, whose bytes are overwritten.
+/// the work file, whose bytes are overwritten, and its triangles behind them.
 pub fn read_stream<I: Source, W: Blob>(
     alloc: Global,
     digits: Option<u8>,

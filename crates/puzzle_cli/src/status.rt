@@ -2,7 +2,7 @@
 ghost use Rattle.std.specs.Prelude.{◌≡◌, ◌++◌, IfOk, codes, string_bytes};
 ghost use Rattle.puzzle_cli.specs.declared.status.Status.TheVariants.{BadInput, Memory};
 ghost use Rattle.puzzle_cli.specs.declared.status.Place.TheVariants.{Line, Row};
-ghost use Rattle.puzzle_cli.specs.Statuses.{bad_text, body_status, build_status, claim_status, export_status, head_status, kind_text, open_status, place_text, read_at_text, script_status, split_status};
+ghost use Rattle.puzzle_cli.specs.Statuses.{bad_text, body_status, build_status, claim_status, export_status, head_status, kind_text, open_status, place_text, read_at_text, script_status, split_status, stream_status};
 
 use build_pass::BuildFault;
 use cut_export::ExportFault;
@@ -158,11 +158,12 @@ impl From<AllocError> for Status {
 }
 
 impl From<StreamFault> for Status {
-    ghost from_gives = { λ _ e. e ≡ Memory };
+    ghost from_gives = { λ fault e. e ≡ stream_status fault };
 
     fn from(fault: StreamFault) -> Self {
         match fault {
-            StreamFault::Memory => Status::Memory,
+            StreamFault::WorkFault => Status::WorkFault,
+            StreamFault::WorkDamage { offset } => Status::WorkDamage { offset },
         }
     }
 }
@@ -319,6 +320,8 @@ pub fn status_of_split(fault: SplitFault) -> Status
 {
     match fault {
         SplitFault::TooManyRecords => Status::TooManyRecords,
+        SplitFault::WorkFault => Status::WorkFault,
+        SplitFault::WorkDamage { offset } => Status::WorkDamage { offset },
         SplitFault::Memory => Status::Memory,
     }
 }
@@ -338,6 +341,8 @@ pub fn status_of_build(fault: BuildFault) -> Status
     ensures { result ≡ build_status fault }
 {
     match fault {
+        BuildFault::WorkFault => Status::WorkFault,
+        BuildFault::WorkDamage { offset } => Status::WorkDamage { offset },
         BuildFault::StoreFault => Status::StoreFault,
         BuildFault::Memory => Status::Memory,
     }

@@ -20,8 +20,8 @@ use Rattle.tetra_name.specs.Names.{tetrahedron_of, IsName}
 use Rattle.tetra_name.proofs.EveryName.{names_each}
 use Rattle.tetra_name.proofs.NameFacts.{contains-member, member-contains, some_is}
 use Rattle.tri_stream.specs.declared.names.StreamId.{StreamId}
-use Rattle.tri_stream.specs.Lists.{list_at}
 use Rattle.tri_stream.specs.Streams.{StreamsState, count_of, list_of, size_of, told_list}
+use Rattle.tri_stream.proofs.OneStream.{list_size}
 use Rattle.diamond_graph.specs.Closed.{IsConforming}
 use Rattle.diamond_graph.proofs.CutBuilding.{HasParents-from_IsConforming}
 use Rattle.diamond_graph.proofs.SetLaw.{both_ways}
@@ -184,14 +184,6 @@ none_pass p (t ∷ M) none =
     ]
 
 -- a told list is as long as its stream
-list_size : (s : StreamsState) (bytes : List ℕ) (id : StreamId) → length (list_of s bytes id) ≡ size_of s id
-unfolding list_of count_of
-list_size s bytes id = by_list (list_at s.lists id.place)
-  where
-    by_list : (o : Option Mesh) → length (unwrap_or o []) ≡ unwrap_or (option_map length o) 0
-    by_list None = refl
-    by_list (Some M) = refl
-
 told_size : (s : StreamsState) (told : Option (List ℕ)) (id : StreamId) (M : Mesh) → told_list s told id ≡ Some M → length M ≡ size_of s id
 told_size s None id M is = absurd cc
 told_size s (Some bytes) id M is =

@@ -1,12 +1,10 @@
 -- The leaf of a triangle is a leaf, and the streams of the leaves hold the triangles that were placed.
-use Rattle.std.proofs.Common.{◌≡◌, ◌≢◌, ◌⊎◌, ◌+◌, ◌*◌, ◌++◌, ◌∷◌, ◌≤◌, ◌<◌, Bool, true, false, cond, Some, None, Option, Err, Result, ℕ, zero, suc, List, [], refl, sym, ◌∙◌, ap, subst, inl, inr, true≢false, arith, map, append-nil}
-use Rattle.std.specs.Prelude.{is_some, not, filter, find, slice_get, take, ◌↔◌, Contains, IsSome}
+use Rattle.std.proofs.Common.{◌≡◌, ◌≢◌, ◌⊎◌, ◌+◌, ◌*◌, ◌++◌, ◌∷◌, Bool, true, false, cond, Some, None, Option, Err, Result, ℕ, zero, suc, List, [], refl, sym, ◌∙◌, ap, subst, inl, inr, true≢false, arith, map, append-nil}
+use Rattle.std.specs.Prelude.{is_some, not, filter, find, Contains, IsSome}
 use Rattle.std.specs.Option.{option_map, option_map_or}
 use Rattle.std.specs.FinMap.{get, empty, get-empty}
-use Rattle.std.proofs.lemmas.Bool.{cases_Bool, cases_lt, false_from_ne_true}
-use Rattle.std.proofs.lemmas.List.{take_all, take_more}
+use Rattle.std.proofs.lemmas.Bool.{cases_Bool, false_from_ne_true}
 use Rattle.std.proofs.lemmas.List.Elements.{filter-append}
-use Rattle.std.proofs.lemmas.Option.{get_or_from_slice_get, slice_get_cases, slice_get_within}
 use Rattle.tpz_base.specs.declared.shape.Point.{Point}
 use Rattle.tpz_base.specs.declared.shape.Tri.{Tri}
 use Rattle.tpz_base.specs.Meshes.{Mesh}
@@ -19,7 +17,7 @@ use Rattle.tetra_name.specs.Names.{tetrahedron_of, IsName, NamesEach}
 use Rattle.tetra_name.proofs.NameFacts.{member-contains}
 use Rattle.tri_stream.specs.declared.names.StreamId.{StreamId}
 use Rattle.diamond_graph.specs.Graphs.{centre_of, fresh_record}
-use Rattle.tri_stream.specs.Streams.{StreamsState, count_of, list_of, told_list, IsLive, LeavesAll, LeavesOthers, size_of}
+use Rattle.tri_stream.specs.Streams.{StreamsState, count_of, list_of, told_list, IsLive, LeavesAll, LeavesOthers}
 use Rattle.assign.specs.Paths.{entered, path, path_below}
 use Rattle.assign.specs.Leaf.{leaf, leaf_patch}
 use Rattle.assign.specs.Names.{tet_cmp, LeafTable}

@@ -15,8 +15,8 @@ use Rattle.tpz_base.specs.Cuts.{has_diamond}
 use Rattle.tetra_name.specs.Names.{point_of, tetrahedron_of, IsName}
 use Rattle.tetra_name.proofs.NameFacts.{contains-member, some_is}
 use Rattle.tri_stream.specs.declared.names.StreamId.{StreamId}
-use Rattle.tri_stream.specs.Lists.{list_at}
 use Rattle.tri_stream.specs.Streams.{StreamsState, count_of, list_of, size_of, told_list, IsLive, LeavesOthers}
+use Rattle.tri_stream.proofs.OneStream.{list_size}
 use Rattle.tri_stream.proofs.Changes.{live_as_before, live_differs}
 use Rattle.assign.specs.Names.{LeafTable}
 use Rattle.assign.proofs.NameTables.{same_tet}
@@ -99,15 +99,13 @@ ended_holds L M name id m s s' h h' here k back none holds = record { lists = li
     once : (t : Tri) → Contains M t → (p q : IsNamed L (remove m name) t) → p.name ≡ q.name
     once t among p q = holds.once t among (before t p) (before t q)
 
-none_of_none : (o : Option Mesh) → unwrap_or (option_map length o) 0 ≡ 0 → unwrap_or o [] ≡ []
-none_of_none None e = refl
-none_of_none (Some []) e = refl
-none_of_none (Some (t ∷ M)) e = absurd cc
+none_long : (M : Mesh) → length M ≡ 0 → M ≡ []
+none_long [] e = refl
+none_long (t ∷ M) e = absurd cc
 
 -- a stream of no triangles has none
 pub empty_list : (s : StreamsState) (id : StreamId) (bytes : List ℕ) → size_of s id ≡ 0 → list_of s bytes id ≡ []
-unfolding count_of list_of
-empty_list s id bytes e = none_of_none (list_at s.lists id.place) e
+empty_list s id bytes e = none_long (list_of s bytes id) (list_size s bytes id ∙ e)
 
 -- a named stream's name is that of a tetrahedron
 pub below_name : (L : ℕ) (F : List Point) (m : LeafTable) (name : Tet) (id : StreamId) → AllBelow L F m → get m name ≡ Some id → IsName L name

@@ -7,7 +7,7 @@ use Rattle.assign.specs.Standing.{NamesStreams}
 use Rattle.tpz_base.specs.declared.shape.Point.{Point}
 use Rattle.tpz_base.specs.declared.shape.Tri.{Tri}
 use Rattle.tri_stream.specs.declared.names.Cursor.{Cursor}
-use Rattle.std.specs.Option.{ForSome, option_map, unwrap_or}
+use Rattle.std.specs.Option.{ForSome}
 use Rattle.std.specs.declared.option.Option.TheVariants.{None, Some}
 use Rattle.tri_stream.specs.declared.names.StreamId.{StreamId}
 use Rattle.tri_stream.specs.Streams.{StreamsState, count_of, list_of, size_of, told_list, total, Follows, IsLive, Stands}

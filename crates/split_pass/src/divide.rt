@@ -1,7 +1,8 @@
 // The triangles of a tetrahedron are divided among its two children.
-ghost use Rattle.std.specs.Prelude.{◌≡◌, ◌≢◌, ◌≤◌, ◌<◌, ◌+◌, ◌*◌, ◌^◌, ◌++◌, ◌∷◌, [], ℕ, List, Some, None, IfErr, OnOk, IsTrue, is_some};
+ghost use Rattle.std.specs.Prelude.{◌≡◌, ◌≢◌, ◌≤◌, ◌<◌, ◌+◌, ◌*◌, ◌^◌, ◌++◌, ◌∷◌, [], ℕ, List, Some, None, Err, IfErr, OnOk, IsTrue, is_some};
 ghost use Rattle.std.specs.Option.{ForSome, option_map};
 ghost use Rattle.std.specs.FinMap as map;
+ghost use Rattle.tpz_io.specs.Causes.{Rose};
 ghost use Rattle.tpz_base.specs.declared.shape.Point.{Point};
 ghost use Rattle.tpz_base.specs.Cuts.{has_diamond};
 ghost use Rattle.tetra_name.specs.declared.shape.Tet.{Tet};
@@ -10,6 +11,7 @@ ghost use Rattle.tpz_base.specs.Meshes.{is_whole, Mesh};
 ghost use Rattle.tpz_base.specs.Diamonds.{level_of};
 ghost use Rattle.tetra_name.specs.Names.{point_of, tetrahedron_of, IsBound, IsName};
 ghost use Rattle.tri_stream.specs.declared.names.Cursor.{Cursor};
+ghost use Rattle.tri_stream.specs.declared.fault.StreamFault.{StreamFault};
 ghost use Rattle.tpz_base.specs.Cubes.{IsTriInCube};
 ghost use Rattle.tri_stream.specs.Streams.{told_list, total, IsLive, Stands, Follows, size_of, Stays};
 ghost use Rattle.split_pass.specs.declared.fault.SplitFault.{SplitFault};
@@ -56,6 +58,8 @@ fn send<B: Blob>(
     ensures total { OnOk result (total streams.new ≡ total streams.old + 1) }
     ensures stays { Stays streams.old streams.new (B.held work.new) }
     ensures later { B.faults work.old ≤ B.faults work.new }
+    ensures work_fault { result ≡ Err StreamFault.WorkFault → Rose (B.faults work.old) (B.faults work.new) }
+    ensures work_damage { (offset : ℕ) → result ≡ Err (StreamFault.WorkDamage offset) → B.held work.old ≡ None }
     ensures telling { is_some (B.held work.new) ≡ is_some (B.held work.old) }
 {
     let id = if plane.side(&t) == 0 {
@@ -96,6 +100,8 @@ fn send_all<B: Blob>(
     ensures total { OnOk result (total streams.new ≡ total streams.old + size_of streams.old id) }
     ensures stays { Stays streams.old streams.new (B.held work.new) }
     ensures later { B.faults work.old ≤ B.faults work.new }
+    ensures work_fault { result ≡ Err StreamFault.WorkFault → Rose (B.faults work.old) (B.faults work.new) }
+    ensures work_damage { (offset : ℕ) → result ≡ Err (StreamFault.WorkDamage offset) → B.held work.old ≡ None }
     ensures telling { is_some (B.held work.new) ≡ is_some (B.held work.old) }
 {
     let plane = Plane::of(name, l);
@@ -138,8 +144,10 @@ pub(crate) fn halve<B: Blob>(
     ensures total { OnOk result (total streams.new ≡ total streams.old) }
     ensures stays { Stays streams.old streams.new (B.held work.new) }
     ensures later { B.faults work.old ≤ B.faults work.new }
+    ensures work_fault { result ≡ Err SplitFault.WorkFault → Rose (B.faults work.old) (B.faults work.new) }
+    ensures work_damage { (offset : ℕ) → result ≡ Err (SplitFault.WorkDamage offset) → B.held work.old ≡ None }
     ensures telling { is_some (B.held work.new) ≡ is_some (B.held work.old) }
-    ensures memory { IfErr result (λ fault. fault ≡ SplitFault.Memory) }
+    ensures few_records { IfErr result (λ fault. fault ≢ SplitFault.TooManyRecords) }
 {
     let halves = Halves {
         first: stream_of(streams, leaves, first)?,

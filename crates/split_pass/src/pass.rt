@@ -1,7 +1,8 @@
 // The call that splits.
-ghost use Rattle.std.specs.Prelude.{◌≡◌, ◌≤◌, ◌<◌, [], ℕ, List, Some, Err, IfOk, length, is_some};
+ghost use Rattle.std.specs.Prelude.{◌≡◌, ◌≤◌, ◌<◌, [], ℕ, List, Some, None, Err, IfOk, length, is_some};
 ghost use Rattle.std.specs.Option.{ForSome};
 ghost use Rattle.std.specs.FinMap as map;
+ghost use Rattle.tpz_io.specs.Causes.{Rose};
 ghost use Rattle.tetra_name.specs.declared.shape.Tet.{Tet};
 ghost use Rattle.diamond_graph.specs.Adding.{most_centres};
 ghost use Rattle.diamond_graph.specs.Graphs.{centres, IsGraph};
@@ -22,8 +23,8 @@ use tri_stream::{StreamId, Streams};
 /// Splits the triangles of a stream: the graph holds the diamonds of the tetrahedra above the last level through which more than `cap` of them go,
 /// and all ancestors of these; each leaf of the graph that has a triangle gets a stream of its triangles, in their order. The stream ends.
 ///
-/// TooManyRecords comes exactly where the graph would have more than 67,108,864 diamonds, unless memory ran out. After a refusal the streams
-/// aren't used again.
+/// TooManyRecords comes exactly where the graph would have more than 67,108,864 diamonds, unless memory ran out or the work file failed. After a
+/// refusal the streams aren't used again.
 pub fn split<B: Blob>(
     streams: &mut Streams,
     work: &mut B,
@@ -54,6 +55,8 @@ pub fn split<B: Blob>(
     ensures total { IfOk result (λ split. total streams.new ≡ size_of streams.old whole) }
     ensures stays { Stays streams.old streams.new (B.held work.new) }
     ensures later { B.faults work.old ≤ B.faults work.new }
+    ensures work_fault { result ≡ Err SplitFault.WorkFault → Rose (B.faults work.old) (B.faults work.new) }
+    ensures work_damage { (offset : ℕ) → result ≡ Err (SplitFault.WorkDamage offset) → B.held work.old ≡ None }
     ensures telling { is_some (B.held work.new) ≡ is_some (B.held work.old) }
 {
     let l = closing.l();

@@ -1,7 +1,8 @@
 // The streams at which the search ended become those of the leaves.
-ghost use Rattle.std.specs.Prelude.{◌≡◌, ◌≢◌, ◌≤◌, ◌^◌, ℕ, Some, None, OnOk, IfErr, is_some};
+ghost use Rattle.std.specs.Prelude.{◌≡◌, ◌≢◌, ◌≤◌, ◌^◌, ℕ, Some, None, Err, OnOk, IfErr, is_some};
 ghost use Rattle.std.specs.Option.{ForSome};
 ghost use Rattle.std.specs.FinMap as map;
+ghost use Rattle.tpz_io.specs.Causes.{Rose};
 ghost use Rattle.tpz_base.specs.Meshes.{Mesh};
 ghost use Rattle.tetra_name.specs.declared.shape.Tet.{Tet};
 ghost use Rattle.tetra_name.specs.Names.{IsBound, IsName};
@@ -39,8 +40,10 @@ fn end_empty<B: Blob>(
     ensures total { OnOk result (total streams.new ≡ total streams.old) }
     ensures stays { Stays streams.old streams.new (B.held work.new) }
     ensures later { B.faults work.old ≤ B.faults work.new }
+    ensures work_fault { result ≡ Err SplitFault.WorkFault → Rose (B.faults work.old) (B.faults work.new) }
+    ensures work_damage { (offset : ℕ) → result ≡ Err (SplitFault.WorkDamage offset) → B.held work.old ≡ None }
     ensures telling { is_some (B.held work.new) ≡ is_some (B.held work.old) }
-    ensures memory { IfErr result (λ fault. fault ≡ SplitFault.Memory) }
+    ensures few_records { IfErr result (λ fault. fault ≢ SplitFault.TooManyRecords) }
 {
     leaves.take(name);
     streams.give_back(work, id)?;
@@ -71,8 +74,10 @@ fn settle<B: Blob>(
     ensures total { OnOk result (total streams.new ≡ total streams.old) }
     ensures stays { Stays streams.old streams.new (B.held work.new) }
     ensures later { B.faults work.old ≤ B.faults work.new }
+    ensures work_fault { result ≡ Err SplitFault.WorkFault → Rose (B.faults work.old) (B.faults work.new) }
+    ensures work_damage { (offset : ℕ) → result ≡ Err (SplitFault.WorkDamage offset) → B.held work.old ≡ None }
     ensures telling { is_some (B.held work.new) ≡ is_some (B.held work.old) }
-    ensures memory { IfErr result (λ fault. fault ≡ SplitFault.Memory) }
+    ensures few_records { IfErr result (λ fault. fault ≢ SplitFault.TooManyRecords) }
 {
     let Some(id) = leaves.stream(name) else {
         return Ok(());
@@ -109,8 +114,10 @@ pub(crate) fn settle_all<B: Blob>(
     ensures total { OnOk result (total streams.new ≡ total streams.old) }
     ensures stays { Stays streams.old streams.new (B.held work.new) }
     ensures later { B.faults work.old ≤ B.faults work.new }
+    ensures work_fault { result ≡ Err SplitFault.WorkFault → Rose (B.faults work.old) (B.faults work.new) }
+    ensures work_damage { (offset : ℕ) → result ≡ Err (SplitFault.WorkDamage offset) → B.held work.old ≡ None }
     ensures telling { is_some (B.held work.new) ≡ is_some (B.held work.old) }
-    ensures memory { IfErr result (λ fault. fault ≡ SplitFault.Memory) }
+    ensures few_records { IfErr result (λ fault. fault ≢ SplitFault.TooManyRecords) }
 {
     let l = graph.l();
     let names = leaves.names()?;

@@ -1,5 +1,5 @@
 -- The words ask for one job, whose answer is that of the command.
-use Rattle.std.proofs.Common.{◌≡◌, ℕ, refl, sym, ap, ◌∙◌, inr}
+use Rattle.std.proofs.Common.{refl, sym, ap, ◌∙◌}
 use Rattle.std.specs.Prelude.{Some, Err}
 use Rattle.tpz_base.specs.Cubes.{level_bound}
 use Rattle.ply_body.specs.Inputs.{mesh_of}

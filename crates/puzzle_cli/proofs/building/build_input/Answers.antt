@@ -1,5 +1,5 @@
 -- The input is built, and its note written.
-use Rattle.std.proofs.Common.{refl, sym, ap, subst, inl, inr, ◌∙◌, ◌≡◌, Err}
+use Rattle.std.proofs.Common.{refl, ap, inl, inr, Err}
 use Rattle.puzzle_cli.specs.declared.status.Status.TheVariants as status
 use Rattle.puzzle_cli.proofs.BuildRuns.{built_run, unbuilt_run}
 use Rattle.puzzle_cli.proofs.BuildSteps.{err_is}

@@ -1,5 +1,5 @@
 -- Words that aren't options of a tour.
-use Rattle.std.proofs.Common.{◌≡◌, sym, ◌∙◌, ap, Err}
+use Rattle.std.proofs.Common.{sym, ap, Err}
 use Rattle.puzzle_cli.proofs.JobRanges.{no_job}
 use Rattle.puzzle_cli.specs.Words.{tour}
 use Rattle.puzzle_cli.proofs.jobs.read_tour.Goals as goal
