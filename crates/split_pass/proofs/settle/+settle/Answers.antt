@@ -53,3 +53,13 @@ settle-requires-2 g t c =
     let level = graph_level c.args.graph.now c.args.l (point_of c.args.name.centre) (sym c.requires.l) c.requires.graph split in
     let below : AllBelow c.args.l (centres c.args.graph.now) c.halve.new.leaves = c.in_ok-halve.ensures.below (centres c.args.graph.now) split c.requires.below in
     search rules
+
+pub returns-clause-settles : goal.returns-clause-settles
+returns-clause-settles g t c =
+    let h = c.in_ok-halve.ensures in
+    on_ok_weaker c.settle-2.result
+    (settled_both (centres c.args.graph.now) c.args.name c.child-first.result c.child-second.result
+      c.args.leaves.now c.halve.new.leaves c.settle.new.leaves c.settle-2.new.leaves
+      c.args.streams.now c.halve.new.streams c.settle.new.streams c.settle-2.new.streams
+      h.gone h.rest h.sizes c.in_ok-settle.ensures.settles)
+    c.settle-2.ensures.settles
