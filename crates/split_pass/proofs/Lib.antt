@@ -3,7 +3,7 @@ pub mod Moving
 mod Crowding
 mod Rooting
 mod CrowdLaw
-pub mod Placing
+mod Sealing
 mod Halving
 mod Searching
 mod Settling

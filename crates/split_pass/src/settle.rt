@@ -35,7 +35,7 @@ fn end_empty<B: Blob>(
     ensures keyed { OnOk result (IsKeyed leaves.new streams.new) }
     ensures rest { OnOk result ((other : Tet) → other ≢ name → map.get leaves.new other ≡ map.get leaves.old other) }
     ensures gone { OnOk result (map.get leaves.new name ≡ None) }
-    ensures holds { OnOk result ((l : ℕ) (M : Mesh) → HoldsThrough l M leaves.old streams.old (B.held work.old) → IsName l name → HoldsThrough l M leaves.new streams.new (B.held work.new)) }
+    ensures holds { OnOk result ((l : ℕ) (M : Mesh) → HoldsThrough l M leaves.old streams.old (B.held work.old) → HoldsThrough l M leaves.new streams.new (B.held work.new)) }
     ensures sizes { OnOk result ((x : StreamId) → x ≢ id → size_of streams.new x ≡ size_of streams.old x) }
     ensures total { OnOk result (total streams.new ≡ total streams.old) }
     ensures stays { Stays streams.old streams.new (B.held work.new) }

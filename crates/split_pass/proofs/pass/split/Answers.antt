@@ -14,7 +14,7 @@ use Rattle.split_pass.specs.declared.fault.SplitFault.TheVariants as SplitFault
 use Rattle.split_pass.specs.Spread.{AllBelow, HoldsThrough}
 use Rattle.split_pass.proofs.CrowdLaw.{found_split}
 use Rattle.split_pass.proofs.Leaving.{holds_patches, names_leaves}
-use Rattle.split_pass.proofs.Placing.{err_same, sealed}
+use Rattle.split_pass.proofs.Sealing.{err_same, sealed}
 use Rattle.split_pass.proofs.pass.split.Goals as goal
 
 pub returns-clause-names : goal.returns-clause-names

@@ -12,10 +12,7 @@ use Rattle.split_pass.proofs.Settling.{below_name, settled_both, settled_end, se
 use Rattle.split_pass.proofs.settle.+settle.Goals as goal
 
 pub returns-then-count-eq0-clause-holds : goal.returns-then-count-eq0-clause-holds
-returns-then-count-eq0-clause-holds g t c =
-    on_ok_weaker c.end_empty.result
-    (λ f. λ M H. f c.args.l M H (below_name c.args.l (centres c.args.graph.now) c.args.leaves.now c.args.name c.in-Some.id c.requires.below (sym c.stream.ensures ∙ c.in-Some.is)))
-    c.end_empty.ensures.holds
+returns-then-count-eq0-clause-holds g t c = on_ok_weaker c.end_empty.result (λ f. λ M. f c.args.l M) c.end_empty.ensures.holds
 
 pub returns-then-not-has-clause-settles : goal.returns-then-not-has-clause-settles
 returns-then-not-has-clause-settles g t c =

@@ -17,7 +17,7 @@ pub returns-clause-gone : goal.returns-clause-gone
 returns-clause-gone g c = ap (λ m. map.get m c.args.name) c.take.ensures.rest ∙ removed_here c.args.leaves.now c.args.name
 
 pub returns-clause-holds : goal.returns-clause-holds
-returns-clause-holds g c = λ L M before named.
+returns-clause-holds g c = λ L M before.
     let held = g.B.Blob.held in
     rw c.take.ensures.rest (ended_holds L M c.args.name c.args.id c.args.leaves.now c.args.streams.now c.give_back.new.self (held c.args.work.now) (held c.give_back.new.blob) c.requires.named c.requires.keyed
     c.in_ok-give_back.ensures.others (λ bytes told. empty_list c.args.streams.now c.args.id bytes c.requires.empty) before)
