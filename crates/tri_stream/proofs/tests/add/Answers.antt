@@ -26,6 +26,7 @@ times-preserved g c =
           (inv.live x live);
       stands = c.append.ensures.kept.stands;
       level = c.append.ensures.kept.l ∙ inv.level;
+      cursors = λ at f. c.append.ensures.cursors at (inv.cursors at f);
       few = let one = c.in_ok-append.ensures.total in let few = inv.few in omega arith;
     }
 

@@ -1,5 +1,5 @@
 -- A name that is live stays so while other names come and go.
-use Rattle.std.proofs.Common.{◌≡◌, ◌≢◌, None, Option, refl, sym}
+use Rattle.std.proofs.Common.{◌≡◌, None, refl, sym}
 use Rattle.tri_stream.specs.declared.names.StreamId.{StreamId}
 use Rattle.tri_stream.specs.Streams.{StreamsState, count_of, IsLive, LeavesOthers}
 use Rattle.tri_stream.proofs.Changes.{append_counts, live_as_before, live_differs, nothing_told}

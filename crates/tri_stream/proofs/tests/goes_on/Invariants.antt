@@ -3,7 +3,7 @@ use Rattle.std.proofs.Common.{◌≡◌}
 use Rattle.std.specs.Option.{ForSome}
 use Rattle.tri_stream.specs.declared.names.StreamId.{StreamId}
 use Rattle.tri_stream.specs.Streams.{count_of, total, Follows, Stands}
-use Rattle.tri_stream.proofs.tests.gives.Given as goal
+use Rattle.tri_stream.proofs.tests.goes_on.Given as goal
 
 abbrev pub invariant-times : goal.invariant-times
 invariant-times g l = record {
