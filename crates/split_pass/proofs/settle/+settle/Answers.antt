@@ -56,7 +56,7 @@ returns-clause-settles g t c =
     let h = c.in_ok-halve.ensures in
     on_ok_weaker c.settle-2.result
     (settled_both (centres c.args.graph.now) c.args.name c.child-first.result c.child-second.result
-      c.args.leaves.now c.halve.new.leaves c.settle.new.leaves c.settle-2.new.leaves
-      c.args.streams.now c.halve.new.streams c.settle.new.streams c.settle-2.new.streams
-      h.gone h.rest h.sizes c.in_ok-settle.ensures.settles)
+    c.args.leaves.now c.halve.new.leaves c.settle.new.leaves c.settle-2.new.leaves
+    c.args.streams.now c.halve.new.streams c.settle.new.streams c.settle-2.new.streams
+    h.gone h.rest h.sizes c.in_ok-settle.ensures.settles)
     c.settle-2.ensures.settles
