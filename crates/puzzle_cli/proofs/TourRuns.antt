@@ -19,8 +19,8 @@ use Rattle.tpz_io.specs.Causes.{Rose}
 use Rattle.tpz_io.specs.Writes.{Wrote}
 use Rattle.tpz_base.specs.Texts.{Bytes, Face}
 use Rattle.patch_file.specs.Asking.{RoseBy}
-use Rattle.puzzle_cli.specs.declared.jobs.Job.{Job}
-use Rattle.puzzle_cli.specs.declared.jobs.Job.TheVariants.{Tour}
+use Rattle.command_words.specs.declared.jobs.Job.{Job}
+use Rattle.command_words.specs.declared.jobs.Job.TheVariants.{Tour}
 use Rattle.puzzle_cli.specs.declared.status.Status.{Status}
 use Rattle.puzzle_cli.specs.declared.status.Status.TheVariants as status
 use Rattle.puzzle_cli.specs.Runs.{BuildRun, ReplayRun, TourRun}

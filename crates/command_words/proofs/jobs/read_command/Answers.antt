@@ -1,8 +1,8 @@
 use Rattle.std.proofs.Common.{◌∙◌, refl, sym, true≢false}
 use Rattle.std.proofs.lemmas.Result.{IfOk-weaker}
-use Rattle.puzzle_cli.specs.Words.{build, finest, gen, info, replay, tour}
-use Rattle.puzzle_cli.proofs.OptionTables.{asked_named, asked_other}
-use Rattle.puzzle_cli.proofs.jobs.read_command.Goals as goal
+use Rattle.command_words.specs.Words.{build, finest, gen, info, replay, tour}
+use Rattle.command_words.proofs.OptionTables.{asked_named, asked_other}
+use Rattle.command_words.proofs.jobs.read_command.Goals as goal
 
 pub returns-then-is_named-clause-ok : goal.returns-then-is_named-clause-ok
 returns-then-is_named-clause-ok c =

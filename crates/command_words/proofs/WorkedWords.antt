@@ -1,8 +1,8 @@
 -- Worked lists of words, with the jobs that they ask for.
 use Rattle.std.specs.Prelude.{◌≡◌, [], ◌∷◌, Some, None, codes}
 use Rattle.std.proofs.Common.{refl}
-use Rattle.puzzle_cli.specs.declared.jobs.Job.TheVariants.{Finest, Build, Gen}
-use Rattle.puzzle_cli.specs.Words.{asked, given_in}
+use Rattle.command_words.specs.declared.jobs.Job.TheVariants.{Finest, Build, Gen}
+use Rattle.command_words.specs.Words.{asked, given_in}
 
 -- ---- taken
 

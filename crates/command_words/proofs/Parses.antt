@@ -21,7 +21,7 @@ use Rattle.clap.specs.declared.builder.value_parser.Reading.TheVariants.{AsWritt
 use Rattle.clap.specs.declared.parser.matches.ValueSource.TheVariants.{CommandLine}
 use Rattle.clap.specs.declared.error.kind.ErrorKind.TheVariants.{ArgumentConflict, UnknownArgument, InvalidValue}
 use Rattle.clap.specs.declared.error.kind.ErrorKind.{ErrorKind}
-use Rattle.puzzle_cli.specs.Parses.{option_rule, options_app}
+use Rattle.command_words.specs.Parses.{option_rule, options_app}
 
 -- ---- the command as it is built
 

@@ -11,9 +11,9 @@ use Rattle.clap.proofs.CutLemmas.{Lacks}
 use Rattle.clap.proofs.SimpleLemmas.{is_false}
 use Rattle.clap.proofs.WalkLemmas.{both}
 use Rattle.clap.proofs.LexerLemmas.{name_and_value-at, name_and_value-without}
-use Rattle.puzzle_cli.specs.Words.{Given, is_named, and_then, given_in, is_equals, parts_of}
-use Rattle.puzzle_cli.proofs.Givens.{attached, bare, other, by_equals, cut_at, form_of, given_alone, given_joined, given_paired, lacks_equals, parts_at}
-use Rattle.puzzle_cli.proofs.Parses.{IsKnown, Use, attached_next, attached_turn, fails_not, fault_from, flag_next, flag_turn, held, is_known, is_new, is_seen, joined, next_word, option_fails, or_second, passes_on, ready, ready_shape, settled_is, settles, stands, stray_fails, twice, unknown_fails, value_passes, value_turn, waits_for, waits_in_vain}
+use Rattle.command_words.specs.Words.{Given, is_named, and_then, given_in, is_equals, parts_of}
+use Rattle.command_words.proofs.Givens.{attached, bare, other, by_equals, cut_at, form_of, given_alone, given_joined, given_paired, lacks_equals, parts_at}
+use Rattle.command_words.proofs.Parses.{IsKnown, Use, attached_next, attached_turn, fails_not, fault_from, flag_next, flag_turn, held, is_known, is_new, is_seen, joined, next_word, option_fails, or_second, passes_on, ready, ready_shape, settled_is, settles, stands, stray_fails, twice, unknown_fails, value_passes, value_turn, waits_for, waits_in_vain}
 
 -- ---- options without their dashes
 

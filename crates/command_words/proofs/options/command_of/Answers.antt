@@ -1,8 +1,8 @@
 use Rattle.std.proofs.Common.{rules, codes, ◌≡◌}
 use Rattle.clap.specs.Words.{rule_of}
-use Rattle.puzzle_cli.specs.Parses.{option_rule}
-use Rattle.puzzle_cli.proofs.OptionTables.{option_added}
-use Rattle.puzzle_cli.proofs.options.command_of.Goals as goal
+use Rattle.command_words.specs.Parses.{option_rule}
+use Rattle.command_words.proofs.OptionTables.{option_added}
+use Rattle.command_words.proofs.options.command_of.Goals as goal
 
 pub loop-setting-preserved : goal.loop-setting-preserved
 loop-setting-preserved c =

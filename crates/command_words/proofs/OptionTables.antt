@@ -17,11 +17,11 @@ use Rattle.clap.specs.Walk.{Row, Text, first_of, nothing_held, rows_after, settl
 use Rattle.clap.specs.declared.parser.matches.ArgMatches.{ArgMatches}
 use Rattle.clap.proofs.SimpleLemmas.{is_false}
 use Rattle.clap.proofs.WalkLemmas.{both, first_value-rows, list_any-map}
-use Rattle.puzzle_cli.specs.Words.{Command, Given, Setting, asked, commands, job_with, are_different, are_options, flag, given_in, is_met, is_named, is_of, is_value, text_for}
-use Rattle.puzzle_cli.specs.declared.options.Setting.{Setting as StoredSetting}
-use Rattle.puzzle_cli.specs.Parses.{TellsOptions, option_rule, options_app, setting_of}
-use Rattle.puzzle_cli.proofs.Parses.{Use, built_is, fault_is, finished_is, is_known, is_seen, ready, row, simple_options}
-use Rattle.puzzle_cli.proofs.OptionWalks.{are_known, are_new, are_plain, dashed, is_plain, is_word, options_pass, what_passes}
+use Rattle.command_words.specs.Words.{Command, Given, Setting, asked, commands, job_with, are_different, are_options, flag, given_in, is_met, is_named, is_of, is_value, text_for}
+use Rattle.command_words.specs.declared.options.Setting.{Setting as StoredSetting}
+use Rattle.command_words.specs.Parses.{TellsOptions, option_rule, options_app, setting_of}
+use Rattle.command_words.proofs.Parses.{Use, built_is, fault_is, finished_is, is_known, is_seen, ready, row, simple_options}
+use Rattle.command_words.proofs.OptionWalks.{are_known, are_new, are_plain, dashed, is_plain, is_word, options_pass, what_passes}
 
 abbrev pub names : List Setting → List Text
 names = map (λ s. s.name)

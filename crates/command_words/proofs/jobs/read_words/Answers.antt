@@ -1,9 +1,9 @@
 use Rattle.std.proofs.Common.{◌∙◌, ap, string_bytes}
 use Rattle.std.proofs.lemmas.Result.{IfOk-weaker}
-use Rattle.puzzle_cli.specs.Words.{asked}
-use Rattle.puzzle_cli.proofs.OptionTables.{first_and_rest, none_given}
-use Rattle.puzzle_cli.proofs.Spellings.{given_as_spelled}
-use Rattle.puzzle_cli.proofs.jobs.read_words.Goals as goal
+use Rattle.command_words.specs.Words.{asked}
+use Rattle.command_words.proofs.OptionTables.{first_and_rest, none_given}
+use Rattle.command_words.proofs.Spellings.{given_as_spelled}
+use Rattle.command_words.proofs.jobs.read_words.Goals as goal
 
 pub returns-in-len1-up-clause-ok : goal.returns-in-len1-up-clause-ok
 returns-in-len1-up-clause-ok c =

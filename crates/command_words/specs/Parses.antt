@@ -7,10 +7,10 @@ use Rattle.clap.specs.declared.builder.action.ArgAction.TheVariants.{Set}
 use Rattle.clap.specs.declared.parser.matches.ArgMatches.{ArgMatches}
 use Rattle.tpz_base.specs.Texts.{Bytes}
 use Rattle.ply_head.specs.Numbers.{value}
-use Rattle.puzzle_cli.specs.declared.jobs.WordsFault.{WordsFault}
-use Rattle.puzzle_cli.specs.declared.jobs.WordsFault.TheVariants.{Usage}
-use Rattle.puzzle_cli.specs.declared.options.Setting.{Setting as StoredSetting}
-use Rattle.puzzle_cli.specs.Words.{Given, Setting, are_different, given_in, is_of, is_value, text_for}
+use Rattle.command_words.specs.declared.jobs.WordsFault.{WordsFault}
+use Rattle.command_words.specs.declared.jobs.WordsFault.TheVariants.{Usage}
+use Rattle.command_words.specs.declared.options.Setting.{Setting as StoredSetting}
+use Rattle.command_words.specs.Words.{Given, Setting, are_different, given_in, is_of, is_value, text_for}
 
 abbrev pub setting_of : StoredSetting → Setting
 setting_of s = record { name = s.name.now; least = s.least; greatest = s.greatest; is_required = s.is_required }

@@ -1,8 +1,8 @@
 // The jobs that the words of the command line ask for.
 ghost use Rattle.std.specs.Prelude.{◌≡◌, ◌≤◌, ◌↔◌, ◌∷◌, IsTrue, Err, None, Some, List, IfOk, IfSome, map, string_bytes};
 ghost use Rattle.tpz_base.specs.Texts.{Bytes};
-ghost use Rattle.puzzle_cli.specs.declared.jobs.WordsFault.TheVariants.{Usage, Memory};
-ghost use Rattle.puzzle_cli.specs.Words.{Given, Spell, asked, build, finest, gen, given_in, info, job_with, replay, tour};
+ghost use Rattle.command_words.specs.declared.jobs.WordsFault.TheVariants.{Usage, Memory};
+ghost use Rattle.command_words.specs.Words.{Given, Spell, asked, build, finest, gen, given_in, info, job_with, replay, tour};
 
 use crate::options::{Setting, option_number, take_options};
 use std::alloc::{AllocError, Global};

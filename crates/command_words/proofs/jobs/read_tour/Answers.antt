@@ -1,8 +1,8 @@
 -- Words that aren't options of a tour.
 use Rattle.std.proofs.Common.{sym, ap, Err}
-use Rattle.puzzle_cli.proofs.JobRanges.{no_job}
-use Rattle.puzzle_cli.specs.Words.{tour}
-use Rattle.puzzle_cli.proofs.jobs.read_tour.Goals as goal
+use Rattle.command_words.proofs.JobRanges.{no_job}
+use Rattle.command_words.specs.Words.{tour}
+use Rattle.command_words.proofs.jobs.read_tour.Goals as goal
 
 pub returns-in_err-matches-clause-usage : goal.returns-in_err-matches-clause-usage
 returns-in_err-matches-clause-usage c = λ is.

@@ -4,9 +4,9 @@ ghost use Rattle.std.specs.Str.{bytes_eq};
 ghost use Rattle.std.specs.List.{list_any, list_all};
 ghost use Rattle.ply_head.specs.Numbers.{are_digits, value};
 ghost use Rattle.clap.specs.Words.{app_of, first_value, found_of};
-ghost use Rattle.puzzle_cli.specs.declared.jobs.WordsFault.TheVariants.{Usage, Memory};
-ghost use Rattle.puzzle_cli.specs.Words.{Given, are_options, given_in, is_named};
-ghost use Rattle.puzzle_cli.specs.Parses.{TellsOptions, number_in, option_number, options_app, setting_of};
+ghost use Rattle.command_words.specs.declared.jobs.WordsFault.TheVariants.{Usage, Memory};
+ghost use Rattle.command_words.specs.Words.{Given, are_options, given_in, is_named};
+ghost use Rattle.command_words.specs.Parses.{TellsOptions, number_in, option_number, options_app, setting_of};
 
 use crate::jobs::WordsFault;
 use clap::error::ErrorKind;

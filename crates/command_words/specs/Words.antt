@@ -5,8 +5,8 @@ use Rattle.std.specs.Option.{option_map_or}
 use Rattle.std.specs.Str.{bytes_eq}
 use Rattle.tpz_base.specs.Texts.{Bytes}
 use Rattle.ply_head.specs.Numbers.{are_digits, value}
-use Rattle.puzzle_cli.specs.declared.jobs.Job.{Job}
-use Rattle.puzzle_cli.specs.declared.jobs.Job.TheVariants.{Finest, Build, Gen, Info, Replay, Tour}
+use Rattle.command_words.specs.declared.jobs.Job.{Job}
+use Rattle.command_words.specs.declared.jobs.Job.TheVariants.{Finest, Build, Gen, Info, Replay, Tour}
 
 -- ---- the options that words spell
 

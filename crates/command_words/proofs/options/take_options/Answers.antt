@@ -2,11 +2,11 @@ use Rattle.std.proofs.Common.{◌≡◌, ◌∙◌, Bool, true, false, not, map,
 use Rattle.std.specs.List.{list_all}
 use Rattle.clap.specs.Words.{App, HasKind, HasMatchesOf, app_of, fault_of, is_simple_and_free, kind_of}
 use Rattle.clap.specs.declared.error.kind.ErrorKind.TheVariants.{OutOfMemory}
-use Rattle.puzzle_cli.specs.Words.{is_named}
-use Rattle.puzzle_cli.specs.Parses.{options_app, setting_of}
-use Rattle.puzzle_cli.proofs.OptionTables.{lone_dashes, names, names_stored, takes_options, tells_options}
-use Rattle.puzzle_cli.proofs.Parses.{free_options}
-use Rattle.puzzle_cli.proofs.options.take_options.Goals as goal
+use Rattle.command_words.specs.Words.{is_named}
+use Rattle.command_words.specs.Parses.{options_app, setting_of}
+use Rattle.command_words.proofs.OptionTables.{lone_dashes, names, names_stored, takes_options, tells_options}
+use Rattle.command_words.proofs.Parses.{free_options}
+use Rattle.command_words.proofs.options.take_options.Goals as goal
 
 from_not : (b : Bool) → not b ≡ false → b ≡ true
 from_not true e = refl

@@ -7,7 +7,7 @@ use Rattle.clap.specs.Walk.{Text}
 use Rattle.clap.specs.Lexer.{long_of, name_and_value}
 use Rattle.clap.proofs.CutLemmas.{Lacks, list_any-Lacks, before_first-at, after_first-at}
 use Rattle.clap.proofs.LexerLemmas.{name_and_value-at, name_and_value-without}
-use Rattle.puzzle_cli.specs.Words.{and_then, given_in, is_equals, parts_of}
+use Rattle.command_words.specs.Words.{and_then, given_in, is_equals, parts_of}
 
 -- ---- words with and without `=`
 

@@ -10,9 +10,9 @@ use Rattle.tpz_base.proofs.CutLaw.{Member}
 use Rattle.tpz_base.proofs.Elements.{at_all}
 use Rattle.ply_head.specs.Numbers.{are_digits, value}
 use Rattle.mesh_gen.specs.Generator.{IsSize}
-use Rattle.puzzle_cli.specs.declared.jobs.Job.{Job}
-use Rattle.puzzle_cli.specs.declared.jobs.Job.TheVariants.{Finest, Build, Gen, Info, Replay, Tour}
-use Rattle.puzzle_cli.specs.Words.{Command, Given, Setting, asked, are_different, are_options, budget, build, cap, commands, digits, finest, gen, given_in, info, is_met, is_of, is_value, job_with, needed_for, number_for, replay, size, text_for, tour, tries}
+use Rattle.command_words.specs.declared.jobs.Job.{Job}
+use Rattle.command_words.specs.declared.jobs.Job.TheVariants.{Finest, Build, Gen, Info, Replay, Tour}
+use Rattle.command_words.specs.Words.{Command, Given, Setting, asked, are_different, are_options, budget, build, cap, commands, digits, finest, gen, given_in, info, is_met, is_of, is_value, job_with, needed_for, number_for, replay, size, text_for, tour, tries}
 
 -- ---- what is given for an option
 

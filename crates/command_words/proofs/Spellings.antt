@@ -6,8 +6,8 @@ use Rattle.clap.specs.Walk.{Text}
 use Rattle.clap.proofs.CutLemmas.{list_any-at}
 use Rattle.clap.proofs.SimpleLemmas.{is_false}
 use Rattle.clap.proofs.WalkLemmas.{both}
-use Rattle.puzzle_cli.specs.Words.{Given, Spell, Spelling, and_then, given_by, given_in, is_equals, is_spelling, parts_of, words_of}
-use Rattle.puzzle_cli.proofs.Givens.{by_equals, cut_at, given_alone, given_joined, given_paired, lacks_equals, parts_at, unequal}
+use Rattle.command_words.specs.Words.{Given, Spell, Spelling, and_then, given_by, given_in, is_equals, is_spelling, parts_of, words_of}
+use Rattle.command_words.proofs.Givens.{by_equals, cut_at, given_alone, given_joined, given_paired, lacks_equals, parts_at, unequal}
 
 pub spelled : (ss : List Spelling) → list_all is_spelling ss ≡ true → given_in (flat_map words_of ss) ≡ Some (map given_by ss)
 unfolding given_in
