@@ -17,7 +17,3 @@ mod PlayLaw
 mod Progress
 mod ReplayRuns
 mod TourRuns
-pub mod WrittenBodies
-pub mod WrittenTexts
-pub mod WrittenMeshes
-mod WorkedTexts

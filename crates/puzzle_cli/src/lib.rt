@@ -20,7 +20,6 @@ mod export;
 mod finest;
 mod generate;
 mod info;
-mod law;
 mod numbering;
 mod reading;
 mod replaying;
@@ -30,9 +29,9 @@ mod touring;
 
 use building::Plan;
 pub use command_words::{Job, WordsFault, read_words};
-pub use law::text_law;
 pub use status::{InputKind, Place, ReadAt, Status};
 use std::alloc::Global;
+pub use text_law::text_law;
 use tpz_io::{Blob, Out, Source};
 
 /// Runs the command that the words ask for. It always returns.

@@ -18,9 +18,9 @@ use Rattle.ply_body.specs.Inputs.{dropped_of, input, mesh_of, point_at, points_o
 use Rattle.ply_body.specs.Spots.{IsOver, IsSmallRow}
 use Rattle.ply_body.proofs.CubeRows.{all_over, point_at_is}
 use Rattle.cut_export.proofs.NumberLemmas.{fronts, has_corners, is_in, numbered, HasCorners}
-use Rattle.puzzle_cli.specs.Written.{read_back, shifted_corners, IsWritable}
-use Rattle.puzzle_cli.proofs.WrittenBodies.{IsWithin}
-use Rattle.puzzle_cli.proofs.WrittenTexts.{text_means, IsAbove, IsFrom}
+use Rattle.text_law.specs.Written.{read_back, shifted_corners, IsWritable}
+use Rattle.text_law.proofs.WrittenBodies.{IsWithin}
+use Rattle.text_law.proofs.WrittenTexts.{text_means, IsAbove, IsFrom}
 
 -- What holds of each corner holds of each vertex.
 of_different : (P : Point → Type 0) (ps : List Point) → All P ps → All P (different ps)

@@ -11,7 +11,7 @@ use Rattle.tpz_base.specs.Texts.{ply_text, text, vertices}
 use Rattle.ply_body.specs.Inputs.{input, mesh_of}
 use Rattle.ply_body.specs.Spots.{IsSmallRow}
 use Rattle.cut_export.specs.Parts.{row_at}
-use Rattle.puzzle_cli.specs.Written.{read_back, shifted_corners, IsWritable}
+use Rattle.text_law.specs.Written.{read_back, shifted_corners, IsWritable}
 
 -- two triangles with a common edge, none of whose corners has the coordinate 0 on x
 abbrev two : Mesh

@@ -1,5 +1,5 @@
-use Rattle.puzzle_cli.proofs.WrittenMeshes.{none_dropped, read_as, triangles_as}
-use Rattle.puzzle_cli.proofs.law.text_law.Goals as goal
+use Rattle.text_law.proofs.WrittenMeshes.{none_dropped, read_as, triangles_as}
+use Rattle.text_law.proofs.law.text_law.Goals as goal
 
 pub returns-clause-read : goal.returns-clause-read
 returns-clause-read c = λ l digits M low h. read_as l digits M low h

@@ -19,7 +19,7 @@ use Rattle.ply_body.specs.Spots.{IsSmallRow}
 use Rattle.ply_body.specs.declared.fault.Flaw.TheVariants.{Short}
 use Rattle.cut_export.specs.Parts.{head_text, row_text, face_text}
 use Rattle.cut_export.proofs.Pieces.{ply_text_is}
-use Rattle.puzzle_cli.proofs.WrittenBodies.{face_words, faces_read, faces_short, fans_are, items_short, left, row_words, rows_read, rows_short, setting, spots_are, words_of, words_of_faces, words_of_rows, IsWithin}
+use Rattle.text_law.proofs.WrittenBodies.{face_words, faces_read, faces_short, fans_are, items_short, left, row_words, rows_read, rows_short, setting, spots_are, words_of, words_of_faces, words_of_rows, IsWithin}
 
 -- How far apart the coordinates are: those that are at most 2^30 above one number.
 abbrev pub IsAbove : ℤ → ℤ → Type 0

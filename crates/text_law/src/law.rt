@@ -4,7 +4,7 @@ ghost use Rattle.tpz_base.specs.Cubes.{Row, low_of};
 ghost use Rattle.tpz_base.specs.Meshes.{Mesh};
 ghost use Rattle.tpz_base.specs.Texts.{text};
 ghost use Rattle.ply_body.specs.Inputs.{dropped_of, input, mesh_of};
-ghost use Rattle.puzzle_cli.specs.Written.{read_back, shifted_corners, IsWritable};
+ghost use Rattle.text_law.specs.Written.{read_back, shifted_corners, IsWritable};
 
 /// Does nothing. Its contract is the law of texts, for every list of whole triangles that a part can hold, and whatever
 /// digits its header tells:
