@@ -15,9 +15,9 @@ use Rattle.patch_file.specs.Tables.{Table}
 use Rattle.patch_file.specs.Stores.{read}
 use Rattle.tpz_io.specs.Writes.{Wrote, WrotePrefix}
 use Rattle.puzzle_cli.specs.Info.{info_items}
-use Rattle.puzzle_cli.specs.declared.status.ReadAt.TheVariants as read_at
-use Rattle.puzzle_cli.specs.declared.status.Status.{Status}
-use Rattle.puzzle_cli.specs.declared.status.Status.TheVariants as status
+use Rattle.run_status.specs.declared.status.ReadAt.TheVariants as read_at
+use Rattle.run_status.specs.declared.status.Status.{Status}
+use Rattle.run_status.specs.declared.status.Status.TheVariants as status
 use Rattle.puzzle_cli.specs.Gen.{gen_items}
 use Rattle.puzzle_cli.specs.Touches.{Devices, touched_by}
 use Rattle.puzzle_cli.specs.Runs.{FinestRun, BuildRun, GenRun, InfoRun, ReplayRun}

@@ -9,7 +9,6 @@ pub mod Completing
 pub mod BuildRuns
 pub mod BuildSteps
 pub mod SplitMesh
-pub mod StreamFaults
 pub mod InfoLemmas
 mod ShownLaw
 mod OpenLaw

@@ -24,12 +24,11 @@ mod numbering;
 mod reading;
 mod replaying;
 mod splitting;
-mod status;
 mod touring;
 
 use building::Plan;
 pub use command_words::{Job, WordsFault, read_words};
-pub use status::{InputKind, Place, ReadAt, Status};
+pub use run_status::{InputKind, Place, ReadAt, Status};
 use std::alloc::Global;
 pub use text_law::text_law;
 use tpz_io::{Blob, Out, Source};

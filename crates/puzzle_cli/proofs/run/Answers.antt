@@ -4,7 +4,7 @@ use Rattle.std.specs.Prelude.{Some, Err}
 use Rattle.tpz_base.specs.Cubes.{level_bound}
 use Rattle.ply_body.specs.Inputs.{mesh_of}
 use Rattle.command_words.specs.declared.jobs.Job.TheVariants.{Finest, Build, Gen, Info, Replay, Tour}
-use Rattle.puzzle_cli.specs.declared.status.Status.TheVariants as status
+use Rattle.run_status.specs.declared.status.Status.TheVariants as status
 use Rattle.puzzle_cli.specs.Touches.{Devices}
 use Rattle.puzzle_cli.proofs.RootCut.{each_once}
 use Rattle.command_words.proofs.JobRanges.{asked_digits, asked_plan, asked_replay, asked_size, asked_tour, asked_tries}

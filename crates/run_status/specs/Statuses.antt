@@ -22,14 +22,14 @@ use Rattle.script_text.specs.declared.script.ScriptFault.{ScriptFault as ScriptR
 use Rattle.script_text.specs.declared.script.ScriptFault.TheVariants as scripts
 use Rattle.cut_export.specs.declared.export.ExportFault.{ExportFault}
 use Rattle.cut_export.specs.declared.export.ExportFault.TheVariants as export
-use Rattle.puzzle_cli.specs.declared.status.Status.{Status}
-use Rattle.puzzle_cli.specs.declared.status.Status.TheVariants.{Ok, Usage, BadInput, Extent, InputFault, ScriptBad, ScriptFault, WorkFault, WorkDamage, StoreFault, NotEmpty, TooManyRecords, BadStore, ReadFault, OutFault, Memory}
-use Rattle.puzzle_cli.specs.declared.status.ReadAt.{ReadAt}
-use Rattle.puzzle_cli.specs.declared.status.ReadAt.TheVariants as read_at
-use Rattle.puzzle_cli.specs.declared.status.InputKind.{InputKind}
-use Rattle.puzzle_cli.specs.declared.status.InputKind.TheVariants as kind
-use Rattle.puzzle_cli.specs.declared.status.Place.{Place}
-use Rattle.puzzle_cli.specs.declared.status.Place.TheVariants.{Line, Row}
+use Rattle.run_status.specs.declared.status.Status.{Status}
+use Rattle.run_status.specs.declared.status.Status.TheVariants.{Ok, Usage, BadInput, Extent, InputFault, ScriptBad, ScriptFault, WorkFault, WorkDamage, StoreFault, NotEmpty, TooManyRecords, BadStore, ReadFault, OutFault, Memory}
+use Rattle.run_status.specs.declared.status.ReadAt.{ReadAt}
+use Rattle.run_status.specs.declared.status.ReadAt.TheVariants as read_at
+use Rattle.run_status.specs.declared.status.InputKind.{InputKind}
+use Rattle.run_status.specs.declared.status.InputKind.TheVariants as kind
+use Rattle.run_status.specs.declared.status.Place.{Place}
+use Rattle.run_status.specs.declared.status.Place.TheVariants.{Line, Row}
 
 abbrev pub code_of : Status → ℕ
 code_of Ok = 0

@@ -1,8 +1,8 @@
 // What a run ends with.
 ghost use Rattle.std.specs.Prelude.{◌≡◌, ◌++◌, IfOk, codes, string_bytes};
-ghost use Rattle.puzzle_cli.specs.declared.status.Status.TheVariants.{BadInput, Memory};
-ghost use Rattle.puzzle_cli.specs.declared.status.Place.TheVariants.{Line, Row};
-ghost use Rattle.puzzle_cli.specs.Statuses.{bad_text, body_status, build_status, claim_status, export_status, head_status, kind_text, open_status, place_text, read_at_text, script_status, split_status, stream_status};
+ghost use Rattle.run_status.specs.declared.status.Status.TheVariants.{BadInput, Memory};
+ghost use Rattle.run_status.specs.declared.status.Place.TheVariants.{Line, Row};
+ghost use Rattle.run_status.specs.Statuses.{bad_text, body_status, build_status, claim_status, export_status, head_status, kind_text, open_status, place_text, read_at_text, script_status, split_status, stream_status};
 
 use build_pass::BuildFault;
 use cut_export::ExportFault;
@@ -85,7 +85,7 @@ pub enum Status {
 }
 
 impl Status {
-    ghost use Rattle.puzzle_cli.specs.Statuses.{code_of, line_of};
+    ghost use Rattle.run_status.specs.Statuses.{code_of, line_of};
 
     /// The exit status of the program.
     pub fn code(&self) -> u8

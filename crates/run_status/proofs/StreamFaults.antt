@@ -2,9 +2,9 @@
 use Rattle.std.proofs.Common.{◌≡◌, ◌⊎◌, ◌∙◌, ℕ, inl, inr, refl, subst, sym}
 use Rattle.split_pass.specs.declared.fault.SplitFault.{SplitFault}
 use Rattle.split_pass.specs.declared.fault.SplitFault.TheVariants as split
-use Rattle.puzzle_cli.specs.declared.status.Status.{Status}
-use Rattle.puzzle_cli.specs.declared.status.Status.TheVariants as status
-use Rattle.puzzle_cli.specs.Statuses.{split_status, IsOfStore, IsOfStreams, IsRefused, IsUnbuilt}
+use Rattle.run_status.specs.declared.status.Status.{Status}
+use Rattle.run_status.specs.declared.status.Status.TheVariants as status
+use Rattle.run_status.specs.Statuses.{split_status, IsOfStore, IsOfStreams, IsRefused, IsUnbuilt}
 
 pub split_told : (s : Status) (f : SplitFault) → s ≡ split_status f → (s ≡ status.TooManyRecords) ⊎ IsOfStreams s
 split_told s split.TooManyRecords is = inl is
