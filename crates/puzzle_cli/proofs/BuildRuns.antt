@@ -10,12 +10,12 @@ use Rattle.ply_body.specs.Inputs.{Refusal, mesh_of}
 use Rattle.diamond_graph.specs.Adding.{most_centres}
 use Rattle.build_pass.specs.Building.{IsBuildable}
 use Rattle.puzzle_cli.specs.declared.building.Summary.{Summary}
-use Rattle.puzzle_cli.specs.declared.status.Status.{Status}
-use Rattle.puzzle_cli.specs.declared.status.Status.TheVariants as status
+use Rattle.run_status.specs.declared.status.Status.{Status}
+use Rattle.run_status.specs.declared.status.Status.TheVariants as status
 use Rattle.puzzle_cli.specs.Build.{build_items, build_note, input_store, params_of, summary_of, IsLeft, IsLeftOver}
 use Rattle.puzzle_cli.specs.Finest.{digits_of, finest_split, input_for, IsAccepted}
 use Rattle.puzzle_cli.specs.Runs.{BuildRun}
-use Rattle.puzzle_cli.specs.Statuses.{status_of, IsOfStore, IsRefused, IsUnbuilt}
+use Rattle.run_status.specs.Statuses.{status_of, IsOfStore, IsRefused, IsUnbuilt}
 use Rattle.puzzle_cli.proofs.Completing.{answered}
 use Rattle.puzzle_cli.proofs.Exports.{none_yet, nothing}
 use Rattle.puzzle_cli.proofs.JobRuns.{never, IsGenAnswer}

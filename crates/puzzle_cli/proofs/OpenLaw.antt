@@ -28,9 +28,9 @@ use Rattle.patch_file.proofs.Once.{parts-length}
 use Rattle.view_cut.specs.Sets.{centres_at, outer_bit, parts_at}
 use Rattle.view_cut.proofs.ActiveLaw.{splits_at, parts_there}
 use Rattle.puzzle_cli.specs.Plays.{first_wrong, wrong_at, wrong_block}
-use Rattle.puzzle_cli.specs.declared.status.Status.{Status}
-use Rattle.puzzle_cli.specs.declared.status.Status.TheVariants.{BadStore, Memory, ReadFault}
-use Rattle.puzzle_cli.specs.declared.status.ReadAt.TheVariants.{Record}
+use Rattle.run_status.specs.declared.status.Status.{Status}
+use Rattle.run_status.specs.declared.status.Status.TheVariants.{BadStore, Memory, ReadFault}
+use Rattle.run_status.specs.declared.status.ReadAt.TheVariants.{Record}
 use Rattle.patch_file.specs.declared.shape.StoreBad.{StoreBad}
 use Rattle.puzzle_cli.specs.Shown.{bit_picked, outer_patches_at, shown_patches, stored_in, IsNamed, IsOpen}
 use Rattle.puzzle_cli.proofs.ShownLaw.{patch_there, take_next}

@@ -33,16 +33,16 @@ use Rattle.view_cut.specs.Sets.{centres_at, IsConformingSet}
 use Rattle.view_cut.specs.Views.{counted_by, wanted_places}
 use Rattle.view_cut.specs.declared.wanting.View.{View}
 use Rattle.view_cut.proofs.PlaceLaw.{wanted_at}
-use Rattle.puzzle_cli.specs.declared.status.Status.{Status}
-use Rattle.puzzle_cli.specs.declared.status.Status.TheVariants as status
-use Rattle.puzzle_cli.specs.declared.status.ReadAt.TheVariants as read_at
+use Rattle.run_status.specs.declared.status.Status.{Status}
+use Rattle.run_status.specs.declared.status.Status.TheVariants as status
+use Rattle.run_status.specs.declared.status.ReadAt.TheVariants as read_at
 use Rattle.puzzle_cli.specs.declared.cut_blocks.Shown.{Shown}
 use Rattle.puzzle_cli.specs.Plays.{Play, Stored, cut_of, first_wrong, numbers_of, part_of, shows, step, view_at, wrong_at, wrong_block}
 use Rattle.puzzle_cli.specs.declared.replaying.Player.{Player}
 use Rattle.puzzle_cli.specs.Playing.{IsPlaying}
 use Rattle.puzzle_cli.proofs.ShownLaw.{counts_both}
 use Rattle.puzzle_cli.specs.Shown.{all_patches, is_read_fault, outer_patches_at, shown_patches, stored_in, IsOpen}
-use Rattle.puzzle_cli.specs.Statuses.{export_status, IsOfLines}
+use Rattle.run_status.specs.Statuses.{export_status, IsOfLines}
 use Rattle.puzzle_cli.proofs.OpenLaw.{of_table, row_there}
 
 -- ---- what a part shows

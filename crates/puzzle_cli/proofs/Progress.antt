@@ -18,10 +18,10 @@ use Rattle.script_text.specs.declared.script.ScriptFault.TheVariants as scripts
 use Rattle.script_text.proofs.ScriptLemmas.{whole_left}
 use Rattle.tpz_io.specs.Causes.{Rose}
 use Rattle.patch_file.specs.declared.shape.StoreBad.{StoreBad}
-use Rattle.puzzle_cli.specs.declared.status.Status.{Status}
-use Rattle.puzzle_cli.specs.declared.status.Status.TheVariants as status
-use Rattle.puzzle_cli.specs.declared.status.ReadAt.{ReadAt}
-use Rattle.puzzle_cli.specs.Statuses.{script_status, IsOfLines}
+use Rattle.run_status.specs.declared.status.Status.{Status}
+use Rattle.run_status.specs.declared.status.Status.TheVariants as status
+use Rattle.run_status.specs.declared.status.ReadAt.{ReadAt}
+use Rattle.run_status.specs.Statuses.{script_status, IsOfLines}
 use Rattle.patch_file.specs.Asking.{HasAsked}
 use Rattle.patch_file.proofs.AskingLaw.{asked_both, asked_none, asked_refused}
 use Rattle.view_cut.specs.Views.{counted_by}

@@ -28,10 +28,10 @@ use Rattle.ply_body.specs.Spots.{coordinates, spots_of, rows_bytes, AreSpots, Ho
 use Rattle.ply_body.proofs.SpotRows.{length-rows_bytes}
 use Rattle.ply_body.proofs.CubeRows.{frame_spots}
 use Rattle.ply_body.specs.Readings.{with_faces, with_spots, coming_told, input_told, opened, IsRefusal, Reading}
-use Rattle.puzzle_cli.specs.declared.status.Status.{Status}
-use Rattle.puzzle_cli.specs.declared.status.Status.TheVariants.{WorkDamage}
+use Rattle.run_status.specs.declared.status.Status.{Status}
+use Rattle.run_status.specs.declared.status.Status.TheVariants.{WorkDamage}
 use Rattle.puzzle_cli.specs.Finest.{digits_for, digits_of, input_for}
-use Rattle.puzzle_cli.specs.Statuses.{head_status, body_status, status_of, IsRefused}
+use Rattle.run_status.specs.Statuses.{head_status, body_status, status_of, IsRefused}
 use Rattle.puzzle_cli.specs.Readings.{AreWhole, HasOpened, IsInputLow, IsRefusalTold, TrisTold}
 
 abbrev Coming : Type 0

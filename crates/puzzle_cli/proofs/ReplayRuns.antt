@@ -39,15 +39,15 @@ use Rattle.patch_file.proofs.AskingLaw.{asked_both, rose_by}
 use Rattle.patch_file.proofs.LookUp.{diamonds_are}
 use Rattle.patch_file.proofs.SoundLaw.{sound}
 use Rattle.puzzle_cli.specs.declared.replaying.Player.{Player}
-use Rattle.puzzle_cli.specs.declared.status.Status.{Status}
-use Rattle.puzzle_cli.specs.declared.status.Status.TheVariants as status
-use Rattle.puzzle_cli.specs.declared.status.ReadAt.{ReadAt}
-use Rattle.puzzle_cli.specs.declared.status.ReadAt.TheVariants as read_at
+use Rattle.run_status.specs.declared.status.Status.{Status}
+use Rattle.run_status.specs.declared.status.Status.TheVariants as status
+use Rattle.run_status.specs.declared.status.ReadAt.{ReadAt}
+use Rattle.run_status.specs.declared.status.ReadAt.TheVariants as read_at
 use Rattle.puzzle_cli.specs.Plays.{Stored, cut_of, end_of, first_wrong, lines_of, played, replay_note, tests_of, wrong_at, wrong_block}
 use Rattle.puzzle_cli.specs.Playing.{HasPlayed}
 use Rattle.puzzle_cli.specs.Runs.{HasReplayed, ReplayRun}
 use Rattle.puzzle_cli.specs.Shown.{is_read_fault, stored_in, AreCounted, IsOpen}
-use Rattle.puzzle_cli.specs.Statuses.{open_status, IsOfLines, IsOfReplay}
+use Rattle.run_status.specs.Statuses.{open_status, IsOfLines, IsOfReplay}
 use Rattle.puzzle_cli.proofs.Exports.{none_yet, nothing}
 use Rattle.puzzle_cli.proofs.InfoLemmas.{ends_failed, refused_by_open}
 use Rattle.puzzle_cli.proofs.JobRuns.{IsGenAnswer, never}

@@ -13,8 +13,8 @@ use Rattle.patch_file.specs.Asking.{failures, Asks, HasAsked}
 use Rattle.patch_file.proofs.AskingLaw.{asks_both, asked_refused, failures_both}
 use Rattle.view_cut.specs.Views.{counted_by}
 use Rattle.diamond_graph.specs.Graphs.{counted_on}
-use Rattle.puzzle_cli.specs.declared.status.Status.{Status}
-use Rattle.puzzle_cli.specs.declared.status.Status.TheVariants.{Memory}
+use Rattle.run_status.specs.declared.status.Status.{Status}
+use Rattle.run_status.specs.declared.status.Status.TheVariants.{Memory}
 use Rattle.puzzle_cli.specs.Shown.{bit_picked, is_read_fault, is_unread, AreCounted}
 use Rattle.patch_file.specs.Patches.{joined}
 

@@ -14,9 +14,9 @@ use Rattle.assign.specs.Splits.{split_set}
 use Rattle.assign.specs.Standing.{HoldsPatches}
 use Rattle.split_pass.specs.declared.fault.SplitFault.{SplitFault}
 use Rattle.split_pass.specs.declared.fault.SplitFault.TheVariants as split
-use Rattle.puzzle_cli.specs.declared.status.Status.TheVariants.{TooManyRecords}
+use Rattle.run_status.specs.declared.status.Status.TheVariants.{TooManyRecords}
 use Rattle.puzzle_cli.specs.Finest.{mesh_for}
-use Rattle.puzzle_cli.specs.Statuses.{split_status}
+use Rattle.run_status.specs.Statuses.{split_status}
 
 pub split_mesh : (l cap : ℕ) (tris : Mesh) (graph : GraphState) (level : ℕ) (leaves : LeafTable) (s : StreamsState) (told : Option Bytes) (N : Mesh)
     → level ≡ l → graph.l ≡ level → centres graph ≡ split_set level cap tris → HoldsPatches level (split_set level cap tris) tris leaves s told

@@ -18,8 +18,8 @@ use Rattle.build_pass.specs.declared.pass.Built.{Built}
 use Rattle.build_pass.specs.Building.{greatest_fine, store_of}
 use Rattle.puzzle_cli.specs.declared.building.Summary.{Summary}
 use Rattle.puzzle_cli.specs.declared.reading.InputStream.{InputStream}
-use Rattle.puzzle_cli.specs.declared.jobs.Job.TheVariants.{Build}
-use Rattle.puzzle_cli.specs.Words.{asked}
+use Rattle.command_words.specs.declared.jobs.Job.TheVariants.{Build}
+use Rattle.command_words.specs.Words.{asked}
 
 -- the words ask for `build` with these digits, cap and budget
 abbrev pub AsksBuild : List (String Global) → Option ℕ → ℕ → ℕ → Type 0

@@ -13,8 +13,8 @@ use Rattle.script_text.specs.Scripts.{ScriptLines, script}
 use Rattle.cut_export.specs.Parts.{row_of}
 use Rattle.patch_file.specs.declared.shape.Params.{Params}
 use Rattle.patch_file.specs.declared.shape.StoreBad.TheVariants.{BadBlock}
-use Rattle.puzzle_cli.specs.declared.status.Status.{Status}
-use Rattle.puzzle_cli.specs.declared.status.Status.TheVariants as status
+use Rattle.run_status.specs.declared.status.Status.{Status}
+use Rattle.run_status.specs.declared.status.Status.TheVariants as status
 use Rattle.patch_file.specs.Tables.{Table, TableRecord, Contents, entries_of}
 use Rattle.patch_file.specs.Patches.{mesh_of_cut}
 

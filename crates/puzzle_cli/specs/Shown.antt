@@ -16,8 +16,8 @@ use Rattle.patch_file.specs.Asking.{risen}
 use Rattle.tpz_base.specs.Texts.{Bytes}
 use Rattle.view_cut.specs.Views.{counted_by}
 use Rattle.puzzle_cli.specs.declared.cut_blocks.Shown.{Shown}
-use Rattle.puzzle_cli.specs.declared.status.Status.{Status}
-use Rattle.puzzle_cli.specs.declared.status.Status.TheVariants as status
+use Rattle.run_status.specs.declared.status.Status.{Status}
+use Rattle.run_status.specs.declared.status.Status.TheVariants as status
 use Rattle.puzzle_cli.specs.Plays.{Stored}
 
 -- the reader and the graph are those of bytes that are read as a store, which are the store's where it tells its own; some records may have been looked at

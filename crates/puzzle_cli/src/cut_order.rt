@@ -10,15 +10,15 @@ ghost use Rattle.tetra_name.specs.Names.{point_of, tetrahedron_of, IsCentre, IsN
 ghost use Rattle.diamond_graph.specs.Graphs.{centres, IsGraph};
 ghost use Rattle.tri_stream.specs.Streams.{told_list, IsLive, Stands};
 ghost use Rattle.assign.specs.Leaf.{leaf_patch};
-ghost use Rattle.puzzle_cli.specs.declared.status.Status.{Status};
+ghost use Rattle.run_status.specs.declared.status.Status.{Status};
 ghost use Rattle.assign.specs.Standing.{HoldsPatches};
 ghost use Rattle.puzzle_cli.specs.Leaves.{Adds, AreLive, KeepsStreams};
-ghost use Rattle.puzzle_cli.specs.Statuses.{IsOfStreams};
+ghost use Rattle.run_status.specs.Statuses.{IsOfStreams};
 ghost use Rattle.cut_export.specs.Numbering.{numbered_mesh, IsNumbering};
 
-use crate::Status;
 use assign::Split;
 use cut_export::Numbered;
+use run_status::Status;
 use std::alloc::Global;
 use tetra_name::{Half, Tet, child, member_count, root};
 use tpz_io::Blob;

@@ -4,7 +4,7 @@
 ghost use Rattle.std.specs.Prelude.{◌≡◌, ◌≤◌, ◌⊎◌, ℕ, Option, false, None, map, string_bytes};
 ghost use Rattle.tpz_io.specs.Causes.{Rose};
 ghost use Rattle.patch_file.specs.Asking.{RoseBy};
-ghost use Rattle.puzzle_cli.specs.Words.{asked};
+ghost use Rattle.command_words.specs.Words.{asked};
 ghost use Rattle.puzzle_cli.specs.Touches.{touched_by};
 ghost use Rattle.puzzle_cli.specs.Finest.{AsksFinest};
 ghost use Rattle.puzzle_cli.specs.Build.{AsksBuild};
@@ -20,21 +20,17 @@ mod export;
 mod finest;
 mod generate;
 mod info;
-mod jobs;
-mod law;
 mod numbering;
-mod options;
 mod reading;
 mod replaying;
 mod splitting;
-mod status;
 mod touring;
 
 use building::Plan;
-pub use jobs::{Job, WordsFault, read_words};
-pub use law::text_law;
-pub use status::{InputKind, Place, ReadAt, Status};
+pub use command_words::{Job, WordsFault, read_words};
+pub use run_status::{InputKind, Place, ReadAt, Status};
 use std::alloc::Global;
+pub use text_law::text_law;
 use tpz_io::{Blob, Out, Source};
 
 /// Runs the command that the words ask for. It always returns.

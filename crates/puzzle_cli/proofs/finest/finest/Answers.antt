@@ -2,12 +2,12 @@
 use Rattle.std.proofs.Common.{◌≤◌, ◌<◌, List, length, refl, subst, inl, inr, ap, Err, arith}
 use Rattle.tpz_base.specs.declared.shape.Point.{Point}
 use Rattle.diamond_graph.specs.Adding.{most_centres}
-use Rattle.puzzle_cli.specs.Statuses.{IsUnread}
+use Rattle.run_status.specs.Statuses.{IsUnread}
 use Rattle.puzzle_cli.proofs.Completing.{unread_own}
 use Rattle.puzzle_cli.proofs.Exports.{as_told, front_as_told, split_is}
 use Rattle.tri_stream.proofs.Changes.{untold_before}
 use Rattle.puzzle_cli.proofs.ReadLemmas.{told_later}
-use Rattle.puzzle_cli.proofs.StreamFaults.{split_never, split_not_of_store, split_not_refused}
+use Rattle.run_status.proofs.StreamFaults.{split_never, split_not_of_store, split_not_refused}
 use Rattle.puzzle_cli.proofs.finest.finest.Goals as goal
 
 pub returns-in-Err-clause-asked : goal.returns-in-Err-clause-asked

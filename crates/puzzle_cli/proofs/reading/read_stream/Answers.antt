@@ -1,7 +1,7 @@
 use Rattle.std.proofs.Common.{◌*◌, length, refl, sym, ◌∙◌, ap, subst, arith, Some}
 use Rattle.tpz_base.specs.Cubes.{low_of}
 use Rattle.ply_body.proofs.CubeRows.{frame_spots}
-use Rattle.puzzle_cli.specs.Statuses.{IsRefused}
+use Rattle.run_status.specs.Statuses.{IsRefused}
 use Rattle.puzzle_cli.proofs.Filling.{source_held, source_of}
 use Rattle.tri_stream.proofs.Changes.{untold_before}
 use Rattle.puzzle_cli.proofs.ReadLemmas.{same_status, all_read, refused_by, low_small, some_same, told_later}

@@ -1,6 +1,6 @@
 -- Line after line.
 use Rattle.std.proofs.Common.{◌∙◌, ◌+◌, ◌<◌, OnSome, ap, refl, sym, subst, arith, Ok, Err}
-use Rattle.puzzle_cli.specs.Statuses.{IsOfLines}
+use Rattle.run_status.specs.Statuses.{IsOfLines}
 use Rattle.puzzle_cli.specs.Shown.{stored_in}
 use Rattle.puzzle_cli.specs.Plays.{play}
 use Rattle.patch_file.proofs.AskingLaw.{asked_both}

@@ -1,6 +1,6 @@
 -- The opening, the lines, and the note.
 use Rattle.std.proofs.Common.{ap, refl, ◌∙◌, subst, inl, inr, Err}
-use Rattle.puzzle_cli.specs.declared.status.Status.TheVariants as status
+use Rattle.run_status.specs.declared.status.Status.TheVariants as status
 use Rattle.puzzle_cli.specs.Shown.{AreCounted}
 use Rattle.puzzle_cli.proofs.InfoLemmas.{isnt}
 use Rattle.puzzle_cli.proofs.Progress.{rose_later}
