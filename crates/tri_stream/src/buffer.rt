@@ -32,6 +32,7 @@ impl Model for Buffer {
 }
 
 // Fills the first bytes, so many, with those from an offset on.
+#[inline(always)]
 fn fill<B: Blob>(blob: &mut B, at: u64, into: &mut [u8], len: usize) -> Result<(), Failed>
     requires room { len ≤ length into.old }
     requires there { ForSome (B.held blob.old) (λ bytes. at + len ≤ length bytes) }
@@ -54,6 +55,7 @@ impl Buffer {
     }
 
     /// Reads so many triangles, the first of which begins at an offset.
+    #[inline(always)]
     pub fn read<B: Blob>(blob: &mut B, at: u64, count: u64) -> Result<Self, Failed>
         requires count { count ≤ 28 }
         requires there { ForSome (B.held blob.old) (λ bytes. at + 36 * count ≤ length bytes) }
