@@ -13,12 +13,13 @@ use Rattle.puzzle_cli.specs.declared.building.Summary.{Summary}
 use Rattle.run_status.specs.declared.status.Status.{Status}
 use Rattle.run_status.specs.declared.status.Status.TheVariants as status
 use Rattle.puzzle_cli.specs.Build.{build_items, build_note, input_store, params_of, summary_of, IsLeft, IsLeftOver}
-use Rattle.puzzle_cli.specs.Finest.{digits_of, finest_split, input_for, IsAccepted}
-use Rattle.puzzle_cli.specs.Runs.{BuildRun}
+use Rattle.puzzle_cli.specs.Digits.{digits_of, input_for, IsAccepted}
+use Rattle.puzzle_cli.specs.Splits.{finest_split}
+use Rattle.puzzle_cli.specs.BuildRuns.{BuildRun}
 use Rattle.run_status.specs.Statuses.{status_of, IsOfStore, IsRefused, IsUnbuilt}
 use Rattle.puzzle_cli.proofs.Completing.{answered}
 use Rattle.puzzle_cli.proofs.Exports.{none_yet, nothing}
-use Rattle.puzzle_cli.proofs.JobRuns.{never, IsGenAnswer}
+use Rattle.puzzle_cli.proofs.OutAnswers.{never, IsGenAnswer}
 
 pub build_unstarted : (digits : Option ℕ) (cap budget : ℕ) (left worked held : Option Bytes) (reads : ℕ) (untouched input_failed work_failed store_failed out_failed : Type 0) (p : Option (List Bytes)) (n : Option Bytes)
     → BuildRun digits cap budget left worked held held reads reads untouched input_failed work_failed store_failed out_failed p p n n status.Memory

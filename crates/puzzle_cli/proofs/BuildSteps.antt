@@ -1,14 +1,11 @@
--- From a stream that was split and built to the store of an input, and from a line to a note.
-use Rattle.std.proofs.Common.{◌≡◌, ◌⊎◌, ℕ, List, [], ◌∷◌, ◌++◌, inl, inr, length, refl, sym, ◌∙◌, ap, ap₂, subst}
+-- From a stream that was split and built to the store of an input.
+use Rattle.std.proofs.Common.{◌≡◌, ◌⊎◌, ℕ, List, [], ◌∷◌, inl, inr, length, refl, sym, ◌∙◌, ap, ap₂, subst}
 use Rattle.std.specs.Prelude.{◌≤◌, ℤ, unsigned_abs, All, Option, Some, None, Result, Err, pos}
 use Rattle.std.specs.List.{slice_index_or}
 use Rattle.tpz_base.specs.declared.shape.Point.{Point}
 use Rattle.tpz_base.specs.Meshes.{Mesh}
 use Rattle.tpz_base.specs.Cubes.{Row}
 use Rattle.tpz_base.specs.Texts.{Bytes, Face}
-use Rattle.tpz_io.specs.Told.{followed_by}
-use Rattle.tpz_io.specs.Writes.{Note, Wrote}
-use Rattle.std.proofs.lemmas.List.{append-nil}
 use Rattle.ply_body.specs.Inputs.{mesh_of, dropped_of}
 use Rattle.tri_stream.specs.declared.names.StreamId.{StreamId}
 use Rattle.tri_stream.specs.Streams.{told_list, StreamsState}
@@ -32,7 +29,6 @@ use Rattle.puzzle_cli.specs.Build.{built_of, params_of, stream_params, summary_o
 use Rattle.puzzle_cli.specs.Readings.{IsSmallStream, IsStreamOf}
 use Rattle.run_status.specs.Statuses.{build_status, IsOfStreams, IsRefused, IsUnbuilt, IsUnread}
 use Rattle.run_status.proofs.StreamFaults.{split_never, split_not_refused, split_unbuilt}
-use Rattle.cut_export.proofs.Pieces.{followed_by-nil}
 
 -- a list that is told has bytes that are told
 pub told_bytes : (s : StreamsState) (told : Option Bytes) (id : StreamId) (M : Mesh) → told_list s told id ≡ Some M → (b : Bytes) × (told ≡ Some b)
@@ -106,9 +102,6 @@ summary_same cap budget scale read now rows faces b is built =
 pub unread_never : {X : Type 0} {P : Type 0} (s t : Status) → IsUnread s → ◌≡◌ {A = Result X Status} (Err s) (Err t) → (IsUnread t → ⊥) → P
 unread_never s t unread is never = absurd (let same : s ≡ t = cc in never (subst (λ x. IsUnread x) same unread))
 
-pub err_is : {X : Type 0} (s t : Status) → ◌≡◌ {A = Result X Status} (Err s) (Err t) → s ≡ t
-err_is s t is = cc
-
 -- what a store that isn't built is told as
 pub build_told : (s : Status) (f : BuildFault) → s ≡ build_status f → (s ≡ status.StoreFault) ⊎ ((s ≡ status.TooManyRecords) ⊎ IsOfStreams s)
 build_told s build.WorkFault is = inr (inr (inr (inl is)))
@@ -172,10 +165,3 @@ unread_unbuilt (status.BadStore why) h = absurd h
 unread_unbuilt (status.ReadFault at) h = absurd h
 unread_unbuilt status.OutFault h = absurd h
 unread_unbuilt status.Memory h = tt
-
--- a line that was written as a note
-pub one_note : (line text : Bytes) (p0 p1 : Option (List Bytes)) (n0 n1 : Option Bytes) → line ≡ text → p1 ≡ p0 → n1 ≡ followed_by n0 (line ++ 10 ∷ []) → Wrote (Note text ∷ []) p0 p1 n0 n1
-one_note line text p0 p1 n0 n1 says parts notes = record {
-  parts = parts ∙ sym (followed_by-nil p0);
-  notes = notes ∙ ap (followed_by n0) (ap (λ (l : Bytes). l ++ 10 ∷ []) says ∙ sym (append-nil _));
-}

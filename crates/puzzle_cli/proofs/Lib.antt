@@ -16,3 +16,9 @@ mod PlayLaw
 mod Progress
 mod ReplayRuns
 mod TourRuns
+pub mod FinestItems
+pub mod Opening
+pub mod OutAnswers
+pub mod FinestRuns
+pub mod GenRuns
+pub mod InfoRuns

@@ -27,7 +27,7 @@ use Rattle.patch_file.proofs.CutRows.{graph_centres}
 use Rattle.patch_file.proofs.Once.{parts-length}
 use Rattle.view_cut.specs.Sets.{centres_at, outer_bit, parts_at}
 use Rattle.view_cut.proofs.ActiveLaw.{splits_at, parts_there}
-use Rattle.puzzle_cli.specs.Plays.{first_wrong, wrong_at, wrong_block}
+use Rattle.puzzle_cli.specs.WrongBlocks.{first_wrong, wrong_at, wrong_block}
 use Rattle.run_status.specs.declared.status.Status.{Status}
 use Rattle.run_status.specs.declared.status.Status.TheVariants.{BadStore, Memory, ReadFault}
 use Rattle.run_status.specs.declared.status.ReadAt.TheVariants.{Record}

@@ -37,7 +37,8 @@ use Rattle.run_status.specs.declared.status.Status.{Status}
 use Rattle.run_status.specs.declared.status.Status.TheVariants as status
 use Rattle.run_status.specs.declared.status.ReadAt.TheVariants as read_at
 use Rattle.puzzle_cli.specs.declared.cut_blocks.Shown.{Shown}
-use Rattle.puzzle_cli.specs.Plays.{Play, Stored, cut_of, first_wrong, numbers_of, part_of, shows, step, view_at, wrong_at, wrong_block}
+use Rattle.puzzle_cli.specs.Plays.{Play, cut_of, numbers_of, part_of, shows, step, view_at}
+use Rattle.puzzle_cli.specs.WrongBlocks.{Stored, first_wrong, wrong_at, wrong_block}
 use Rattle.puzzle_cli.specs.declared.replaying.Player.{Player}
 use Rattle.puzzle_cli.specs.Playing.{IsPlaying}
 use Rattle.puzzle_cli.proofs.ShownLaw.{counts_both}

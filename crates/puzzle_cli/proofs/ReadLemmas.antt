@@ -30,7 +30,7 @@ use Rattle.ply_body.proofs.CubeRows.{frame_spots}
 use Rattle.ply_body.specs.Readings.{with_faces, with_spots, coming_told, input_told, opened, IsRefusal, Reading}
 use Rattle.run_status.specs.declared.status.Status.{Status}
 use Rattle.run_status.specs.declared.status.Status.TheVariants.{WorkDamage}
-use Rattle.puzzle_cli.specs.Finest.{digits_for, digits_of, input_for}
+use Rattle.puzzle_cli.specs.Digits.{digits_for, digits_of, input_for}
 use Rattle.run_status.specs.Statuses.{head_status, body_status, status_of, IsRefused}
 use Rattle.puzzle_cli.specs.Readings.{AreWhole, HasOpened, IsInputLow, IsRefusalTold, TrisTold}
 
@@ -372,3 +372,6 @@ fronts_join base base' x y z same first second = record {
       front_twice base bytes mid.0 bytes' (first.change bytes mid.0 told mid.1)
       (subst (λ n. take (min n (length mid.0)) bytes' ≡ take n mid.0) same (second.change mid.0 bytes' mid.1 told'));
 }
+
+pub err_is : {X : Type 0} (s t : Status) → ◌≡◌ {A = Result X Status} (Err s) (Err t) → s ≡ t
+err_is s t is = cc

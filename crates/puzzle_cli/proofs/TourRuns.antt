@@ -1,5 +1,5 @@
 -- What holds of a tour, by its build and its replay.
-use Rattle.std.proofs.Common.{◌≡◌, ◌⊎◌, ℕ, ◌≤◌, ◌<◌, length, Bool, List, [], refl, sym, ◌∙◌, ap, subst, inl, inr, arith, Option, Some, None}
+use Rattle.std.proofs.Common.{◌≡◌, ◌⊎◌, ℕ, ◌≤◌, ◌<◌, length, Bool, List, [], refl, sym, ◌∙◌, ap, inl, inr, arith, Option, Some, None}
 use Rattle.std.specs.Prelude.{Ok, Err}
 use Rattle.std.specs.Option.{ForSome}
 use Rattle.tpz_base.specs.Cubes.{Row}
@@ -10,8 +10,10 @@ use Rattle.diamond_graph.specs.Adding.{most_centres}
 use Rattle.patch_file.specs.declared.shape.StoreBad.{StoreBad}
 use Rattle.build_pass.specs.Building.{table}
 use Rattle.puzzle_cli.specs.Build.{params_of}
-use Rattle.puzzle_cli.specs.Finest.{digits_of, finest_split, input_for}
-use Rattle.puzzle_cli.specs.Plays.{Stored, end_of, lines_of, played}
+use Rattle.puzzle_cli.specs.Digits.{digits_of, input_for}
+use Rattle.puzzle_cli.specs.Splits.{finest_split}
+use Rattle.puzzle_cli.specs.WrongBlocks.{Stored}
+use Rattle.puzzle_cli.specs.Plays.{end_of, lines_of, played}
 use Rattle.puzzle_cli.specs.Replay.{IsFaithful}
 use Rattle.run_status.specs.Statuses.{status_of}
 use Rattle.puzzle_cli.proofs.ReadLemmas.{told_later}
@@ -19,11 +21,10 @@ use Rattle.tpz_io.specs.Causes.{Rose}
 use Rattle.tpz_io.specs.Writes.{Wrote}
 use Rattle.tpz_base.specs.Texts.{Bytes, Face}
 use Rattle.patch_file.specs.Asking.{RoseBy}
-use Rattle.command_words.specs.declared.jobs.Job.{Job}
-use Rattle.command_words.specs.declared.jobs.Job.TheVariants.{Tour}
 use Rattle.run_status.specs.declared.status.Status.{Status}
 use Rattle.run_status.specs.declared.status.Status.TheVariants as status
-use Rattle.puzzle_cli.specs.Runs.{BuildRun, ReplayRun, TourRun}
+use Rattle.puzzle_cli.specs.BuildRuns.{BuildRun}
+use Rattle.puzzle_cli.specs.ReplayRuns.{ReplayRun, TourRun}
 use Rattle.puzzle_cli.proofs.BuildRuns.{build_unstarted}
 use Rattle.puzzle_cli.proofs.Exports.{nothing}
 
@@ -92,21 +93,6 @@ tour_unstarted digits cap budget tries left lines worked held outcomes reads fau
   faithful = λ e. absurd cc;
   complete = λ bytes at holds keeps store stored text told none a b c d e f. (λ rows faces means. (λ fits. inr refl, λ past. inr refl), λ r is. inr refl);
 }
-
-pub same_tour : {left lines worked held held' : Option Bytes} {outcomes : Option (List Bool)} {reads reads' faults faults' out_faults out_faults' : ℕ} {untouched script_untouched input_failed work_failed script_failed : Type 0}
-    {p0 p2 : Option (List Bytes)} {n0 n2 : Option Bytes} {answer : Status} (o : Option Job) (d : Option ℕ) (k b t : ℕ) (d' : Option ℕ) (k' b' t' : ℕ) → o ≡ Some (Tour d k b t) → o ≡ Some (Tour d' k' b' t')
-    → TourRun d k b t left lines worked held held' outcomes reads reads' faults faults' out_faults out_faults' untouched script_untouched input_failed work_failed script_failed p0 p2 n0 n2 answer
-    → TourRun d' k' b' t' left lines worked held held' outcomes reads reads' faults faults' out_faults out_faults' untouched script_untouched input_failed work_failed script_failed p0 p2 n0 n2 answer
-same_tour {left} {lines} {worked} {held} {held'} {outcomes} {reads} {reads'} {faults} {faults'} {out_faults} {out_faults'} {untouched} {script_untouched} {input_failed} {work_failed} {script_failed} {p0} {p2} {n0} {n2} {answer} o d k b t d' k' b' t' x y h =
-    let both : ◌≡◌ {A = Option Job} (Some (Tour d k b t)) (Some (Tour d' k' b' t')) = sym x ∙ y in
-    let p : d ≡ d' = cc in
-    let q : k ≡ k' = cc in
-    let r : b ≡ b' = cc in
-    let s : t ≡ t' = cc in
-    subst (λ z. TourRun z k' b' t' left lines worked held held' outcomes reads reads' faults faults' out_faults out_faults' untouched script_untouched input_failed work_failed script_failed p0 p2 n0 n2 answer) p
-    (subst (λ z. TourRun d z b' t' left lines worked held held' outcomes reads reads' faults faults' out_faults out_faults' untouched script_untouched input_failed work_failed script_failed p0 p2 n0 n2 answer) q
-    (subst (λ z. TourRun d k z t' left lines worked held held' outcomes reads reads' faults faults' out_faults out_faults' untouched script_untouched input_failed work_failed script_failed p0 p2 n0 n2 answer) r
-    (subst (λ z. TourRun d k b z left lines worked held held' outcomes reads reads' faults faults' out_faults out_faults' untouched script_untouched input_failed work_failed script_failed p0 p2 n0 n2 answer) s h)))
 
 -- a failure before others
 pub rose_front : (a b c : ℕ) → Rose a b → b ≤ c → Rose a c

@@ -1,8 +1,6 @@
--- The command `build`: its words, the store that it leaves, and what it writes.
-use Rattle.std.specs.Prelude.{◌≡◌, ◌⊎◌, ℕ, List, [], ◌∷◌, ◌++◌, length, map, codes, decimal, string_bytes, Option, Some}
+-- The command `build`: the store that it leaves, and what it writes.
+use Rattle.std.specs.Prelude.{◌≡◌, ◌⊎◌, ℕ, List, [], ◌∷◌, ◌++◌, length, codes, decimal, Option}
 use Rattle.std.specs.Option.{ForSome}
-use Rattle.std.specs.declared.string.String.{String}
-use Rattle.std.specs.declared.alloc.Global.{Global}
 use Rattle.tpz_io.specs.Writes.{Item, Note}
 use Rattle.tpz_base.specs.Meshes.{Mesh}
 use Rattle.tpz_base.specs.Cubes.{Row, low_of, level_bound}
@@ -18,12 +16,6 @@ use Rattle.build_pass.specs.declared.pass.Built.{Built}
 use Rattle.build_pass.specs.Building.{greatest_fine, store_of}
 use Rattle.puzzle_cli.specs.declared.building.Summary.{Summary}
 use Rattle.puzzle_cli.specs.declared.reading.InputStream.{InputStream}
-use Rattle.command_words.specs.declared.jobs.Job.TheVariants.{Build}
-use Rattle.command_words.specs.Words.{asked}
-
--- the words ask for `build` with these digits, cap and budget
-abbrev pub AsksBuild : List (String Global) → Option ℕ → ℕ → ℕ → Type 0
-AsksBuild words digits cap budget = asked (map string_bytes words) ≡ Some (Build digits cap budget)
 
 -- what the store of an input of these digits, rows and faces says of its build
 abbrev pub params_of : ℕ → ℕ → ℕ → List Row → List Face → Params

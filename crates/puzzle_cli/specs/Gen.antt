@@ -1,18 +1,10 @@
--- The command `gen`: its words, and what it writes.
-use Rattle.std.specs.Prelude.{◌≡◌, ℕ, List, ◌++◌, length, map, codes, decimal, string_bytes, Some, pos}
-use Rattle.std.specs.declared.string.String.{String}
-use Rattle.std.specs.declared.alloc.Global.{Global}
+-- What the command `gen` writes.
+use Rattle.std.specs.Prelude.{ℕ, List, ◌++◌, length, codes, decimal, pos}
 use Rattle.tpz_io.specs.Writes.{Item}
 use Rattle.tpz_base.specs.Texts.{Bytes}
 use Rattle.mesh_gen.specs.Generator.{generated}
-use Rattle.command_words.specs.declared.jobs.Job.TheVariants.{Gen}
-use Rattle.command_words.specs.Words.{asked}
 use Rattle.cut_export.specs.Parts.{row_at}
 use Rattle.puzzle_cli.specs.Exports.{mesh_items}
-
--- the words ask for `gen` with this size
-abbrev pub AsksGen : List (String Global) → ℕ → Type 0
-AsksGen words size = asked (map string_bytes words) ≡ Some (Gen size)
 
 abbrev pub gen_note : ℕ → ℕ → Bytes
 gen_note size tris = codes "gen size " ++ (decimal size ++ (codes " tris " ++ decimal tris))

@@ -1,17 +1,9 @@
--- The command `info`: its words, and what it writes.
-use Rattle.std.specs.Prelude.{◌≡◌, ℕ, List, [], ◌∷◌, ◌++◌, length, map, codes, decimal, string_bytes, Some}
-use Rattle.std.specs.declared.string.String.{String}
-use Rattle.std.specs.declared.alloc.Global.{Global}
+-- What the command `info` writes.
+use Rattle.std.specs.Prelude.{ℕ, List, [], ◌∷◌, ◌++◌, length, codes, decimal}
 use Rattle.tpz_io.specs.Writes.{Item, Note}
 use Rattle.tpz_base.specs.Texts.{Bytes}
 use Rattle.patch_file.specs.declared.shape.Params.{Params}
 use Rattle.patch_file.specs.Tables.{Table}
-use Rattle.command_words.specs.declared.jobs.Job.TheVariants.{Info}
-use Rattle.command_words.specs.Words.{asked}
-
--- the words ask for `info` with so many tries
-abbrev pub AsksInfo : List (String Global) → ℕ → Type 0
-AsksInfo words tries = asked (map string_bytes words) ≡ Some (Info tries)
 
 -- the numbers of the build's input
 abbrev pub input_text : Params → Bytes

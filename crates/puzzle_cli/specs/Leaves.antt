@@ -1,7 +1,7 @@
 -- The leaves of a mesh that is split, and the order in which its finest cut goes through them.
-use Rattle.std.specs.Prelude.{◌≡◌, ◌≢◌, ℕ, ◌+◌, List, [], ◌++◌, length, flat_map, is_some, Option, Some, if◌then◌else◌}
+use Rattle.std.specs.Prelude.{◌≡◌, ℕ, List, [], ◌++◌, flat_map, Option, Some, if◌then◌else◌}
 use Rattle.std.specs.FinMap as map
-use Rattle.std.specs.Option.{ForSome, option_map}
+use Rattle.std.specs.Option.{ForSome}
 use Rattle.tpz_base.specs.declared.shape.Point.{Point}
 use Rattle.tpz_base.specs.Meshes.{Mesh}
 use Rattle.tpz_base.specs.Tetrahedra.{Tetrahedron, diamond}
@@ -9,7 +9,7 @@ use Rattle.tpz_base.specs.Cuts.{has_diamond}
 use Rattle.tpz_base.specs.Texts.{Bytes}
 use Rattle.tetra_name.specs.declared.shape.Tet.{Tet}
 use Rattle.tri_stream.specs.declared.names.StreamId.{StreamId}
-use Rattle.tri_stream.specs.Streams.{StreamsState, count_of, told_list, total, IsLive, Stands}
+use Rattle.tri_stream.specs.Streams.{StreamsState, count_of, told_list, IsLive, Stands}
 use Rattle.assign.specs.Names.{LeafTable}
 use Rattle.assign.specs.Leaf.{leaf_patch}
 use Rattle.assign.specs.Standing.{HoldsPatches}
@@ -31,22 +31,3 @@ pub record KeepsStreams (old new : StreamsState) (before now : Option Bytes) : T
   pub counts : (x : StreamId) → count_of new x ≡ count_of old x
   pub lists : (x : StreamId) → told_list new now x ≡ told_list old before x
   pub stands : ForSome now (Stands new)
-
--- These triangles are at the end of one stream, and the cube is as before. The bytes are told as before or not.
-pub record Fills (id : StreamId) (tris : Mesh) (old new : StreamsState) (before now : Option Bytes) : Type 0 where
-  pub list : told_list new now id ≡ option_map (λ M. M ++ tris) (told_list old before id)
-  pub count : count_of new id ≡ option_map (λ n. n + length tris) (count_of old id)
-  pub others : (x : StreamId) → x ≢ id → count_of new x ≡ count_of old x
-  pub total : total new ≡ total old + length tris
-  pub l : new.l ≡ old.l
-  pub stands : ForSome now (Stands new)
-  pub telling : is_some now ≡ is_some before
-
--- One stream alone is live, and holds these triangles of the cube. The bytes are told as before or not.
-pub record IsSourceOf (l : ℕ) (tris : Mesh) (s : StreamsState) (whole : StreamId) (before now : Option Bytes) : Type 0 where
-  pub level : s.l ≡ l
-  pub list : ForSome now (λ bytes. told_list s now whole ≡ Some tris)
-  pub count : count_of s whole ≡ Some (length tris)
-  pub only : (id : StreamId) → IsLive s id → id ≡ whole
-  pub stands : ForSome now (Stands s)
-  pub telling : is_some now ≡ is_some before

@@ -1,6 +1,5 @@
 -- What the lines of a script make of a store.
-use Rattle.std.specs.Prelude.{ℕ, suc, ◌*◌, length, List, [], ◌∷◌, ◌++◌, slice_get, Option, Some, None, option_and_then, Result, Ok, Err, codes, decimal, ℤ, ◌-ℤ◌}
-use Rattle.std.specs.Option.{option_or}
+use Rattle.std.specs.Prelude.{ℕ, suc, ◌*◌, length, List, [], ◌∷◌, ◌++◌, Option, Some, None, codes, decimal, ℤ, ◌-ℤ◌}
 use Rattle.tpz_io.specs.Writes.{Item, Part}
 use Rattle.tpz_base.specs.declared.shape.Point.{Point}
 use Rattle.tpz_base.specs.Texts.{Bytes, text}
@@ -11,16 +10,12 @@ use Rattle.script_text.specs.declared.line.Line.TheVariants.{Look, Write}
 use Rattle.script_text.specs.Commands.{read_line}
 use Rattle.script_text.specs.Scripts.{ScriptLines, script}
 use Rattle.cut_export.specs.Parts.{row_of}
-use Rattle.patch_file.specs.declared.shape.Params.{Params}
 use Rattle.patch_file.specs.declared.shape.StoreBad.TheVariants.{BadBlock}
 use Rattle.run_status.specs.declared.status.Status.{Status}
 use Rattle.run_status.specs.declared.status.Status.TheVariants as status
-use Rattle.patch_file.specs.Tables.{Table, TableRecord, Contents, entries_of}
+use Rattle.patch_file.specs.Tables.{Table, entries_of}
 use Rattle.patch_file.specs.Patches.{mesh_of_cut}
-
--- the table and the params that a store is read as
-abbrev pub Stored : Type 0
-Stored = Table × Params
+use Rattle.puzzle_cli.specs.WrongBlocks.{Stored}
 
 -- a view of a script, whose eye is given in scaled coordinates of the input
 abbrev pub view_at : List ℤ → ℤ → ℤ → ℤ → ℕ → View
@@ -85,19 +80,6 @@ lines_of bytes = script read_line bytes
 
 abbrev pub played : Stored → Bytes → Play
 played out bytes = play out (lines_of bytes).lines
-
--- the number of a record whose block is wrong, with the offset of the first item in the block that is
-abbrev pub wrong_block : ℕ → Result Contents ℕ → Option (ℕ × ℕ)
-wrong_block i (Ok block) = None
-wrong_block i (Err offset) = Some (i, offset)
-
-abbrev pub wrong_at : Table → ℕ → Option (ℕ × ℕ)
-wrong_at tb i = option_and_then (λ (r : TableRecord). wrong_block i r.block) (slice_get tb.records i)
-
--- the first of these records whose block is wrong
-unfoldable pub first_wrong : Table → List ℕ → Option (ℕ × ℕ)
-first_wrong tb [] = None
-first_wrong tb (i ∷ numbers) = option_or (wrong_at tb i) (first_wrong tb numbers)
 
 abbrev pub replay_note : ℕ → ℕ → ℕ → Bytes
 replay_note parts reads tests = codes "replay parts " ++ (decimal parts ++ (codes " reads " ++ (decimal reads ++ (codes " tests " ++ decimal tests))))

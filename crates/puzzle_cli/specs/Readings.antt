@@ -16,7 +16,7 @@ use Rattle.tri_stream.specs.Streams.{count_of, told_list, total, IsLive, Stands}
 use Rattle.puzzle_cli.specs.declared.reading.InputMesh.{InputMesh}
 use Rattle.puzzle_cli.specs.declared.reading.InputStream.{InputStream}
 use Rattle.run_status.specs.declared.status.Status.{Status}
-use Rattle.puzzle_cli.specs.Finest.{digits_of, input_for}
+use Rattle.puzzle_cli.specs.Digits.{digits_of, input_for}
 use Rattle.run_status.specs.Statuses.{body_status}
 
 -- The whole triangles among those of some faces, by the points that are held, and how many aren't whole.
@@ -83,3 +83,11 @@ pub record IsSmallStream (now : Option Bytes) (read : InputStream) : Type 0 wher
   pub few : read.tris + read.dropped ≤ 2147483648
   pub digits : read.digits ≤ 9
   pub held : ForSome (told_list read.streams now read.whole) (All (IsHeld read.l))
+
+-- the mesh that was read is that of these digits, rows and faces
+pub record IsMeshOf (mesh : InputMesh) (scale : ℕ) (rows : List Row) (faces : List Face) : Type 0 where
+  pub l : mesh.l ≡ level_bound rows
+  pub digits : mesh.digits ≡ scale
+  pub low : mesh.low ≡ coordinates (low_of rows)
+  pub tris : mesh.tris.items ≡ mesh_of rows faces
+  pub dropped : mesh.dropped ≡ dropped_of rows faces

@@ -1,8 +1,5 @@
--- The commands `replay` and `tour`: their words, and what the store of a build makes of every script.
-use Rattle.std.specs.Prelude.{◌≡◌, ℕ, true, List, Option, None, map, string_bytes, Some, Ok}
-use Rattle.std.specs.declared.string.String.{String}
-use Rattle.std.specs.declared.alloc.Global.{Global}
-use Rattle.command_words.specs.declared.jobs.Job.TheVariants.{Replay, Tour}
+-- What the store of a build makes of every script.
+use Rattle.std.specs.Prelude.{◌≡◌, ℕ, true, List, Option, None, Ok}
 use Rattle.tpz_base.specs.declared.shape.Point.{Point}
 use Rattle.tpz_base.specs.Meshes.{Mesh, has_vertex, SameBorder, SameTriangles}
 use Rattle.tpz_base.specs.Texts.{Bytes}
@@ -12,12 +9,8 @@ use Rattle.patch_file.specs.Representatives.{IsRepresented}
 use Rattle.patch_file.specs.Stores.{read}
 use Rattle.build_pass.specs.Building.{table}
 use Rattle.view_cut.specs.declared.wanting.View.{View}
-use Rattle.puzzle_cli.specs.Plays.{cut_of, first_wrong}
-use Rattle.command_words.specs.Words.{asked}
-
--- the words ask for `replay` with so many tries
-abbrev pub AsksReplay : List (String Global) → ℕ → Type 0
-AsksReplay words tries = asked (map string_bytes words) ≡ Some (Replay tries)
+use Rattle.puzzle_cli.specs.Plays.{cut_of}
+use Rattle.puzzle_cli.specs.WrongBlocks.{first_wrong}
 
 -- The bytes of a store that was built of a mesh are read as its table, with no wrong block; whatever the view, the mesh that is written has the signed
 -- edge sums of M and a representative of each of its vertices, and the mesh of all diamonds holds the triangles of M, each once.
@@ -27,7 +20,3 @@ pub record IsFaithful (M : Mesh) (params : Params) (bytes : Bytes) : Type 0 wher
   pub border : (view : Option View) → SameBorder (mesh_of_cut (table M params) (cut_of (table M params) view)) M
   pub represented : (view : Option View) (v : Point) → has_vertex M v ≡ true → IsRepresented (table M params) (cut_of (table M params) view) v
   pub finest : SameTriangles (finest_mesh (table M params)) M
-
--- the words ask for `tour` with these digits, cap, budget and tries
-abbrev pub AsksTour : List (String Global) → Option ℕ → ℕ → ℕ → ℕ → Type 0
-AsksTour words digits cap budget tries = asked (map string_bytes words) ≡ Some (Tour digits cap budget tries)

@@ -18,7 +18,7 @@ use Rattle.view_cut.specs.Views.{counted_by}
 use Rattle.puzzle_cli.specs.declared.cut_blocks.Shown.{Shown}
 use Rattle.run_status.specs.declared.status.Status.{Status}
 use Rattle.run_status.specs.declared.status.Status.TheVariants as status
-use Rattle.puzzle_cli.specs.Plays.{Stored}
+use Rattle.puzzle_cli.specs.WrongBlocks.{Stored}
 
 -- the reader and the graph are those of bytes that are read as a store, which are the store's where it tells its own; some records may have been looked at
 abbrev pub IsOpen : Option Bytes → ReaderState → GraphState → Type 0

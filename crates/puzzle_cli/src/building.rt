@@ -14,9 +14,10 @@ ghost use Rattle.patch_file.specs.Writing.{claimed};
 ghost use Rattle.build_pass.specs.Building.{store_of, IsBuildable};
 ghost use Rattle.run_status.specs.declared.status.Status.{Status};
 ghost use Rattle.puzzle_cli.specs.Build.{build_note, built_of, built_text, input_store, params_of, read_text, stream_params, summary_of, IsLeft, IsLeftOver};
-ghost use Rattle.puzzle_cli.specs.Finest.{digits_of, finest_split, input_for, IsAccepted};
+ghost use Rattle.puzzle_cli.specs.Digits.{digits_of, input_for, IsAccepted};
+ghost use Rattle.puzzle_cli.specs.Splits.{finest_split};
 ghost use Rattle.puzzle_cli.specs.Readings.{IsSmallStream};
-ghost use Rattle.puzzle_cli.specs.Runs.{BuildRun};
+ghost use Rattle.puzzle_cli.specs.BuildRuns.{BuildRun};
 ghost use Rattle.run_status.specs.Statuses.{status_of, IsOfStreams, IsRefused, IsUnbuilt};
 
 use crate::reading::{InputStream, read_stream};

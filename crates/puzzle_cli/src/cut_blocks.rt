@@ -13,7 +13,7 @@ ghost use Rattle.patch_file.specs.Reading.{patches_of, IsBlockOf, IsRightBase};
 ghost use Rattle.view_cut.specs.Sets.{centres_at, IsConformingSet};
 ghost use Rattle.run_status.specs.declared.status.Status.{Status};
 ghost use Rattle.run_status.specs.declared.status.ReadAt.{ReadAt};
-ghost use Rattle.puzzle_cli.specs.Plays.{first_wrong, wrong_at};
+ghost use Rattle.puzzle_cli.specs.WrongBlocks.{first_wrong, wrong_at};
 ghost use Rattle.puzzle_cli.specs.Shown.{all_patches, bit_picked, is_unread, outer_patches_at, shown_patches, stored_in, AreCounted, IsNamed, IsOpen};
 
 use diamond_graph::Graph;

@@ -6,12 +6,12 @@ ghost use Rattle.tpz_io.specs.Causes.{Rose};
 ghost use Rattle.patch_file.specs.Asking.{RoseBy};
 ghost use Rattle.command_words.specs.Words.{asked};
 ghost use Rattle.puzzle_cli.specs.Touches.{touched_by};
-ghost use Rattle.puzzle_cli.specs.Finest.{AsksFinest};
-ghost use Rattle.puzzle_cli.specs.Build.{AsksBuild};
-ghost use Rattle.puzzle_cli.specs.Gen.{AsksGen};
-ghost use Rattle.puzzle_cli.specs.Info.{AsksInfo};
-ghost use Rattle.puzzle_cli.specs.Replay.{AsksReplay, AsksTour};
-ghost use Rattle.puzzle_cli.specs.Runs.{FinestRun, BuildRun, GenRun, InfoRun, ReplayRun, TourRun};
+ghost use Rattle.puzzle_cli.specs.Asks.{AsksFinest, AsksBuild, AsksGen, AsksInfo, AsksReplay, AsksTour};
+ghost use Rattle.puzzle_cli.specs.FinestRuns.{FinestRun};
+ghost use Rattle.puzzle_cli.specs.BuildRuns.{BuildRun};
+ghost use Rattle.puzzle_cli.specs.GenRuns.{GenRun};
+ghost use Rattle.puzzle_cli.specs.InfoRuns.{InfoRun};
+ghost use Rattle.puzzle_cli.specs.ReplayRuns.{ReplayRun, TourRun};
 
 mod building;
 mod cut_blocks;

@@ -12,8 +12,9 @@ ghost use Rattle.tpz_base.specs.Meshes.{Mesh};
 ghost use Rattle.tri_stream.specs.Lists.{IsHeld};
 ghost use Rattle.tri_stream.specs.Streams.{total, IsLive, Stands};
 ghost use Rattle.run_status.specs.declared.status.Status.{Status};
-ghost use Rattle.puzzle_cli.specs.Finest.{digits_of, input_for, IsAccepted, IsMeshOf};
-ghost use Rattle.puzzle_cli.specs.Leaves.{Fills};
+ghost use Rattle.puzzle_cli.specs.Digits.{digits_of, input_for, IsAccepted};
+ghost use Rattle.puzzle_cli.specs.Readings.{IsMeshOf};
+ghost use Rattle.puzzle_cli.specs.Fills.{Fills};
 ghost use Rattle.puzzle_cli.specs.Readings.{HasOpened, IsRefusalTold, IsSmallMesh, IsSmallStream, IsStreamOf, TrisTold};
 ghost use Rattle.run_status.specs.Statuses.{status_of, IsRefused, IsUnread};
 

@@ -9,10 +9,11 @@ ghost use Rattle.tri_stream.specs.declared.names.StreamId.{StreamId};
 ghost use Rattle.tri_stream.specs.declared.fault.StreamFault.{StreamFault};
 ghost use Rattle.tri_stream.specs.Streams.{count_of, told_list, total, IsLive, Stands};
 ghost use Rattle.run_status.specs.declared.status.Status.{Status};
-ghost use Rattle.puzzle_cli.specs.Finest.{mesh_for, split_for};
+ghost use Rattle.puzzle_cli.specs.Cuts.{mesh_for};
+ghost use Rattle.puzzle_cli.specs.Splits.{split_for};
 ghost use Rattle.cut_export.specs.Numbering.{numbered_mesh, IsNumbering};
 ghost use Rattle.puzzle_cli.specs.Readings.{IsSmallMesh};
-ghost use Rattle.puzzle_cli.specs.Leaves.{Fills, IsSourceOf};
+ghost use Rattle.puzzle_cli.specs.Fills.{Fills, IsSourceOf};
 ghost use Rattle.run_status.specs.Statuses.{IsOfStreams};
 
 use crate::cut_order::number_leaves;

@@ -2,7 +2,7 @@
 ghost use Rattle.std.specs.Prelude.{◌≡◌, ◌≤◌, None, ℕ, IfSome};
 ghost use Rattle.tpz_io.specs.Causes.{Rose};
 ghost use Rattle.run_status.specs.declared.status.Status.{Status};
-ghost use Rattle.puzzle_cli.specs.Runs.{TourRun};
+ghost use Rattle.puzzle_cli.specs.ReplayRuns.{TourRun};
 
 use crate::building::{Plan, build_input};
 use crate::replaying::replay;

@@ -8,10 +8,14 @@ use Rattle.run_status.specs.declared.status.Status.TheVariants as status
 use Rattle.puzzle_cli.specs.Touches.{Devices}
 use Rattle.puzzle_cli.proofs.RootCut.{each_once}
 use Rattle.command_words.proofs.JobRanges.{asked_digits, asked_plan, asked_replay, asked_size, asked_tour, asked_tries}
-use Rattle.puzzle_cli.proofs.JobRuns.{same_build, same_finest, same_gen, same_info, same_replay, other_job, some_or_none, touched, finest_unstarted, gen_unstarted, info_unstarted, never, never_told, gen_complete, info_run}
+use Rattle.puzzle_cli.proofs.JobRuns.{same_build, same_finest, same_gen, same_info, same_replay, other_job, some_or_none, touched, same_tour}
+use Rattle.puzzle_cli.proofs.FinestRuns.{finest_unstarted}
+use Rattle.puzzle_cli.proofs.GenRuns.{gen_unstarted, gen_complete}
+use Rattle.puzzle_cli.proofs.InfoRuns.{info_unstarted, never_told, info_run}
+use Rattle.puzzle_cli.proofs.OutAnswers.{never}
 use Rattle.puzzle_cli.proofs.BuildRuns.{build_unstarted}
 use Rattle.puzzle_cli.proofs.ReplayRuns.{not_replayed, replay_unstarted}
-use Rattle.puzzle_cli.proofs.TourRuns.{same_tour, tour_unstarted}
+use Rattle.puzzle_cli.proofs.TourRuns.{tour_unstarted}
 use Rattle.puzzle_cli.proofs.Completing.{answered}
 use Rattle.puzzle_cli.proofs.run.Goals as goal
 

@@ -3,7 +3,7 @@ use Rattle.std.specs.Prelude.{All, None, flat_map}
 use Rattle.std.specs.Option.{ForSome}
 use Rattle.patch_file.specs.Asking.{HasAsked}
 use Rattle.view_cut.specs.Sets.{centres_at}
-use Rattle.puzzle_cli.specs.Plays.{first_wrong}
+use Rattle.puzzle_cli.specs.WrongBlocks.{first_wrong}
 use Rattle.puzzle_cli.specs.Shown.{outer_patches_at, shown_patches, stored_in, AreCounted, IsNamed}
 use Rattle.puzzle_cli.proofs.cut_blocks.read_cut.Given as goal
 

@@ -1,5 +1,5 @@
 use Rattle.std.proofs.Common.{◌∙◌}
-use Rattle.puzzle_cli.proofs.Exports.{finest_items_are}
+use Rattle.puzzle_cli.proofs.FinestItems.{finest_items_are}
 use Rattle.puzzle_cli.proofs.finest.export.Goals as goal
 
 pub returns-clause-ok : goal.returns-clause-ok

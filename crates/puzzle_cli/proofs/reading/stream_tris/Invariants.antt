@@ -6,7 +6,7 @@ use Rattle.tpz_base.specs.Texts.{Face}
 use Rattle.tri_stream.specs.Lists.{IsHeld}
 use Rattle.ply_body.specs.Spots.{HoldsPoints}
 use Rattle.ply_body.specs.Readings.{coming_told, with_faces}
-use Rattle.puzzle_cli.specs.Leaves.{Fills}
+use Rattle.puzzle_cli.specs.Fills.{Fills}
 use Rattle.puzzle_cli.specs.Readings.{AreWhole}
 use Rattle.puzzle_cli.proofs.ReadLemmas.{KeepsFront}
 use Rattle.puzzle_cli.proofs.reading.stream_tris.Given as goal

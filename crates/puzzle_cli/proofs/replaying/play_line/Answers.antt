@@ -10,7 +10,8 @@ use Rattle.script_text.specs.declared.line.Line.TheVariants.{Look}
 use Rattle.script_text.specs.Commands.{is_in_bounds, is_near}
 use Rattle.patch_file.specs.declared.shape.Params.{Params}
 use Rattle.patch_file.proofs.AskingLaw.{asked_none}
-use Rattle.puzzle_cli.specs.Plays.{asks, first_wrong, shows, step, view_at}
+use Rattle.puzzle_cli.specs.Plays.{asks, shows, step, view_at}
+use Rattle.puzzle_cli.specs.WrongBlocks.{first_wrong}
 use Rattle.puzzle_cli.specs.Playing.{IsPlaying}
 use Rattle.puzzle_cli.specs.Shown.{stored_in}
 use Rattle.puzzle_cli.proofs.Exports.{nothing}

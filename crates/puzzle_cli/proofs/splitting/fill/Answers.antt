@@ -2,7 +2,7 @@
 use Rattle.std.proofs.Common.{subst, arith}
 use Rattle.std.proofs.lemmas.List.{length-take, take_all}
 use Rattle.tpz_base.specs.Meshes.{Mesh}
-use Rattle.puzzle_cli.specs.Leaves.{Fills}
+use Rattle.puzzle_cli.specs.Fills.{Fills}
 use Rattle.puzzle_cli.proofs.Filling.{fills_more, fills_none, still_live}
 use Rattle.puzzle_cli.proofs.splitting.fill.Goals as goal
 

@@ -1,7 +1,7 @@
 -- Without a cap the mesh is that of the roots, and no diamond is split.
 use Rattle.std.proofs.Common.{◌≡◌, ℕ, ◌∙◌, sym, subst, Option}
 use Rattle.tpz_base.specs.Roots.{mesh_by_roots}
-use Rattle.puzzle_cli.specs.Finest.{mesh_for}
+use Rattle.puzzle_cli.specs.Cuts.{mesh_for}
 use Rattle.puzzle_cli.proofs.RootCut.{by_roots}
 use Rattle.puzzle_cli.proofs.splitting.number.Goals as goal
 

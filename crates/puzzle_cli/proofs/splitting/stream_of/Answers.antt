@@ -1,7 +1,7 @@
 -- The stream was made first, and has all.
 use Rattle.std.proofs.Common.{◌∙◌, subst}
 use Rattle.tpz_base.specs.Meshes.{Mesh}
-use Rattle.puzzle_cli.specs.Leaves.{IsSourceOf}
+use Rattle.puzzle_cli.specs.Fills.{IsSourceOf}
 use Rattle.puzzle_cli.proofs.Filling.{source_of}
 use Rattle.puzzle_cli.proofs.splitting.stream_of.Goals as goal
 

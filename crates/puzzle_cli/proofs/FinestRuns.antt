@@ -1,0 +1,25 @@
+-- What a run of `finest` says.
+use Rattle.std.proofs.Common.{ℕ, List, refl, inl, inr}
+use Rattle.std.specs.Prelude.{Option}
+use Rattle.tpz_base.specs.Texts.{Bytes}
+use Rattle.tpz_base.specs.Cubes.{level_bound}
+use Rattle.ply_body.specs.Inputs.{mesh_of}
+use Rattle.run_status.specs.declared.status.Status.TheVariants as status
+use Rattle.puzzle_cli.specs.FinestRuns.{FinestRun}
+use Rattle.puzzle_cli.proofs.RootCut.{each_once}
+use Rattle.puzzle_cli.proofs.Exports.{none_yet, nothing}
+
+pub finest_unstarted : (digits cap : Option ℕ) (left held : Option Bytes) (input_failed work_failed out_failed : Type 0) (p : Option (List Bytes)) (n : Option Bytes)
+    → FinestRun digits cap left held input_failed work_failed out_failed p p n n status.Memory
+finest_unstarted digits cap left held input_failed work_failed out_failed p n = record {
+  ok = λ e. absurd cc;
+  once = λ rows faces. each_once cap (level_bound rows) (mesh_of rows faces);
+  refused = λ h. absurd h;
+  accepted = λ h. absurd (elim h [ inl e ↦ cc | inr k ↦ elim k [ inl e ↦ cc | inr e ↦ cc ] ]);
+  few = λ h. absurd (elim h [ inl e ↦ cc | inr e ↦ cc ]);
+  too_many = λ e. absurd cc;
+  complete = λ bytes told held keeps no_input no_work no_out. (λ rows faces means. (λ fits. inr refl, λ past. inr refl), λ r is. inr refl);
+  front = λ bytes told held keeps rows faces means. none_yet _ p p n n refl refl;
+  unaccepted = λ bytes told not_accepted. nothing p p n n refl refl;
+  unread = λ a b c. nothing p p n n refl refl;
+}

@@ -1,0 +1,22 @@
+-- What a run of `gen` says.
+use Rattle.std.proofs.Common.{◌≡◌, ℕ, ◌⊎◌, List, refl, inl, inr}
+use Rattle.std.specs.Prelude.{Option}
+use Rattle.tpz_base.specs.Texts.{Bytes}
+use Rattle.mesh_gen.proofs.Sums.{generated_closed}
+use Rattle.run_status.specs.declared.status.Status.{Status}
+use Rattle.run_status.specs.declared.status.Status.TheVariants as status
+use Rattle.puzzle_cli.specs.Gen.{gen_items}
+use Rattle.puzzle_cli.specs.GenRuns.{GenRun}
+use Rattle.puzzle_cli.proofs.Exports.{none_yet}
+use Rattle.puzzle_cli.proofs.OutAnswers.{IsGenAnswer}
+
+pub gen_unstarted : (size : ℕ) (out_failed : Type 0) (p : Option (List Bytes)) (n : Option Bytes) → GenRun size out_failed p p n n status.Memory
+gen_unstarted size out_failed p n = record {
+  ok = λ e. absurd cc;
+  closed = generated_closed size;
+  complete = λ no. inr refl;
+  front = none_yet (gen_items size) p p n n refl refl;
+}
+
+pub gen_complete : (answer : Status) (out_failed : Type 0) → IsGenAnswer answer → (answer ≡ status.OutFault → out_failed) → (out_failed → ⊥) → (answer ≡ status.Ok) ⊎ (answer ≡ status.Memory)
+gen_complete answer out_failed is fault none = elim is [ inl e ↦ inl e | inr k ↦ elim k [ inl e ↦ absurd (none (fault e)) | inr e ↦ inr e ] ]
