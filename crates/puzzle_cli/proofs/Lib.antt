@@ -1,7 +1,5 @@
-pub mod RootLoops
 pub mod Exports
 pub mod ReadLemmas
-pub mod LeafOrder
 pub mod RootCut
 pub mod Filling
 pub mod JobRuns

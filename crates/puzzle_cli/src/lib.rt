@@ -15,12 +15,10 @@ ghost use Rattle.puzzle_cli.specs.ReplayRuns.{ReplayRun, TourRun};
 
 mod building;
 mod cut_blocks;
-mod cut_order;
 mod export;
 mod finest;
 mod generate;
 mod info;
-mod numbering;
 mod reading;
 mod replaying;
 mod splitting;

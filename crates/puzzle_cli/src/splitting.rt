@@ -16,11 +16,10 @@ ghost use Rattle.puzzle_cli.specs.Readings.{IsSmallMesh};
 ghost use Rattle.puzzle_cli.specs.Fills.{Fills, IsSourceOf};
 ghost use Rattle.run_status.specs.Statuses.{IsOfStreams};
 
-use crate::cut_order::number_leaves;
-use crate::numbering::number_by_roots;
 use crate::reading::InputMesh;
 use assign::Leaves;
 use cut_export::Numbered;
+use cut_order::{number_by_roots, number_leaves};
 use diamond_graph::Closing;
 use run_status::{Status, status_of_split};
 use split_pass::split;

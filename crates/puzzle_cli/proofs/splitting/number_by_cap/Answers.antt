@@ -4,7 +4,7 @@ use Rattle.std.proofs.lemmas.Result.{IfErr-weaker, IfOk-weaker}
 use Rattle.run_status.specs.declared.status.Status.TheVariants.{TooManyRecords}
 use Rattle.diamond_graph.specs.Adding.{ClosingState}
 use Rattle.tetra_name.proofs.NameFacts.{some_is}
-use Rattle.puzzle_cli.proofs.LeafOrder.{on_any}
+use Rattle.cut_order.proofs.LeafOrder.{on_any}
 use Rattle.puzzle_cli.proofs.ReadLemmas.{told_later, err_is}
 use Rattle.tri_stream.proofs.Changes.{untold_before}
 use Rattle.run_status.proofs.StreamFaults.{split_told, split_was_damage, split_was_fault}
