@@ -13,11 +13,11 @@ use Rattle.puzzle_cli.specs.declared.building.Summary.{Summary}
 use Rattle.run_status.specs.declared.status.Status.{Status}
 use Rattle.run_status.specs.declared.status.Status.TheVariants as status
 use Rattle.puzzle_cli.specs.Build.{build_items, build_note, input_store, params_of, summary_of, IsLeft, IsLeftOver}
-use Rattle.puzzle_cli.specs.Digits.{digits_of, input_for, IsAccepted}
-use Rattle.puzzle_cli.specs.Splits.{finest_split}
+use Rattle.mesh_stream.specs.Digits.{digits_of, input_for, IsAccepted}
+use Rattle.mesh_stream.specs.Splits.{finest_split}
 use Rattle.puzzle_cli.specs.BuildRuns.{BuildRun}
 use Rattle.run_status.specs.Statuses.{status_of, IsOfStore, IsRefused, IsUnbuilt}
-use Rattle.puzzle_cli.proofs.Completing.{answered}
+use Rattle.mesh_stream.proofs.Completing.{answered}
 use Rattle.puzzle_cli.proofs.Exports.{none_yet, nothing}
 use Rattle.puzzle_cli.proofs.OutAnswers.{never, IsGenAnswer}
 

@@ -6,13 +6,13 @@ use Rattle.tpz_base.specs.declared.shape.Point.{Point}
 use Rattle.tpz_base.specs.Meshes.{Mesh}
 use Rattle.tpz_base.specs.Cubes.{Row}
 use Rattle.tpz_base.specs.Texts.{Bytes, Face}
-use Rattle.puzzle_cli.specs.declared.reading.InputMesh.{InputMesh}
-use Rattle.puzzle_cli.specs.declared.reading.Facts.{Facts}
+use Rattle.mesh_stream.specs.declared.reading.InputMesh.{InputMesh}
+use Rattle.mesh_stream.specs.declared.reading.Facts.{Facts}
 use Rattle.cut_export.specs.declared.numbering.Numbered.{Numbered}
 use Rattle.puzzle_cli.specs.Finest.{finest_items, finest_note, items_for, items_of}
-use Rattle.puzzle_cli.specs.Splits.{finest_split, split_for}
+use Rattle.mesh_stream.specs.Splits.{finest_split, split_for}
 use Rattle.puzzle_cli.specs.Cuts.{mesh_for}
-use Rattle.puzzle_cli.specs.Readings.{IsMeshOf}
+use Rattle.mesh_stream.specs.Readings.{IsMeshOf}
 use Rattle.puzzle_cli.specs.Exports.{mesh_items}
 use Rattle.cut_export.specs.Numbering.{numbered_mesh, IsNumbering}
 use Rattle.cut_export.specs.Parts.{row_of}

@@ -1,9 +1,6 @@
 pub mod Exports
-pub mod ReadLemmas
 pub mod RootCut
-pub mod Filling
 pub mod JobRuns
-pub mod Completing
 pub mod BuildRuns
 pub mod BuildSteps
 pub mod SplitMesh

@@ -10,13 +10,13 @@ use Rattle.diamond_graph.specs.Adding.{most_centres}
 use Rattle.patch_file.specs.declared.shape.StoreBad.{StoreBad}
 use Rattle.build_pass.specs.Building.{table}
 use Rattle.puzzle_cli.specs.Build.{params_of}
-use Rattle.puzzle_cli.specs.Digits.{digits_of, input_for}
-use Rattle.puzzle_cli.specs.Splits.{finest_split}
+use Rattle.mesh_stream.specs.Digits.{digits_of, input_for}
+use Rattle.mesh_stream.specs.Splits.{finest_split}
 use Rattle.puzzle_cli.specs.WrongBlocks.{Stored}
 use Rattle.puzzle_cli.specs.Plays.{end_of, lines_of, played}
 use Rattle.puzzle_cli.specs.Replay.{IsFaithful}
 use Rattle.run_status.specs.Statuses.{status_of}
-use Rattle.puzzle_cli.proofs.ReadLemmas.{told_later}
+use Rattle.mesh_stream.proofs.ReadLemmas.{told_later}
 use Rattle.tpz_io.specs.Causes.{Rose}
 use Rattle.tpz_io.specs.Writes.{Wrote}
 use Rattle.tpz_base.specs.Texts.{Bytes, Face}

@@ -11,8 +11,8 @@ use Rattle.build_pass.specs.Building.{IsBuildable}
 use Rattle.build_pass.specs.Building.{IsBuildable}
 use Rattle.run_status.specs.declared.status.Status.{Status}
 use Rattle.run_status.specs.declared.status.Status.TheVariants as status
-use Rattle.puzzle_cli.specs.Digits.{digits_of, input_for, IsAccepted}
-use Rattle.puzzle_cli.specs.Splits.{finest_split}
+use Rattle.mesh_stream.specs.Digits.{digits_of, input_for, IsAccepted}
+use Rattle.mesh_stream.specs.Splits.{finest_split}
 use Rattle.puzzle_cli.specs.Build.{build_items, input_store, params_of, IsLeft, IsLeftOver}
 use Rattle.run_status.specs.Statuses.{status_of, IsRefused}
 

@@ -6,7 +6,7 @@ use Rattle.tpz_base.specs.Cuts.{cut_mesh}
 use Rattle.tpz_base.specs.Texts.{Face}
 use Rattle.ply_body.specs.Inputs.{mesh_of}
 use Rattle.assign.specs.Leaf.{leaf_patch}
-use Rattle.puzzle_cli.specs.Splits.{split_for}
+use Rattle.mesh_stream.specs.Splits.{split_for}
 
 -- the mesh of the finest cut
 unfoldable pub mesh_for : Option ℕ → ℕ → Mesh → Mesh

@@ -5,7 +5,7 @@ use Rattle.tpz_base.specs.Meshes.{Mesh}
 use Rattle.tpz_base.specs.Cubes.{Row, low_of}
 use Rattle.tpz_base.specs.Texts.{Bytes, Face, vertices, text}
 use Rattle.ply_body.specs.Inputs.{mesh_of, dropped_of}
-use Rattle.puzzle_cli.specs.declared.reading.Facts.{Facts}
+use Rattle.mesh_stream.specs.declared.reading.Facts.{Facts}
 use Rattle.cut_export.specs.Parts.{row_of}
 use Rattle.puzzle_cli.specs.Cuts.{finest_mesh}
 

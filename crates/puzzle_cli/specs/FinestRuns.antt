@@ -9,10 +9,10 @@ use Rattle.ply_body.specs.Inputs.{Refusal, mesh_of}
 use Rattle.diamond_graph.specs.Adding.{most_centres}
 use Rattle.run_status.specs.declared.status.Status.{Status}
 use Rattle.run_status.specs.declared.status.Status.TheVariants as status
-use Rattle.puzzle_cli.specs.Digits.{digits_of, input_for, IsAccepted}
+use Rattle.mesh_stream.specs.Digits.{digits_of, input_for, IsAccepted}
 use Rattle.puzzle_cli.specs.Cuts.{finest_mesh}
 use Rattle.puzzle_cli.specs.Finest.{finest_items}
-use Rattle.puzzle_cli.specs.Splits.{finest_split}
+use Rattle.mesh_stream.specs.Splits.{finest_split}
 use Rattle.run_status.specs.Statuses.{status_of, IsRefused}
 
 -- a run of `finest`

@@ -24,8 +24,8 @@ use Rattle.puzzle_cli.specs.Plays.{cut_of, end_of, lines_of, played, replay_note
 use Rattle.run_status.specs.declared.status.Status.{Status}
 use Rattle.run_status.specs.declared.status.Status.TheVariants as status
 use Rattle.run_status.specs.declared.status.ReadAt.TheVariants as read_at
-use Rattle.puzzle_cli.specs.Digits.{digits_of, input_for}
-use Rattle.puzzle_cli.specs.Splits.{finest_split}
+use Rattle.mesh_stream.specs.Digits.{digits_of, input_for}
+use Rattle.mesh_stream.specs.Splits.{finest_split}
 use Rattle.puzzle_cli.specs.Build.{params_of}
 use Rattle.run_status.specs.Statuses.{status_of}
 use Rattle.puzzle_cli.specs.BuildRuns.{BuildRun}

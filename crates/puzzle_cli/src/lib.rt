@@ -19,7 +19,6 @@ mod export;
 mod finest;
 mod generate;
 mod info;
-mod reading;
 mod replaying;
 mod splitting;
 mod touring;

@@ -16,7 +16,7 @@ use Rattle.puzzle_cli.proofs.OutAnswers.{never}
 use Rattle.puzzle_cli.proofs.BuildRuns.{build_unstarted}
 use Rattle.puzzle_cli.proofs.ReplayRuns.{not_replayed, replay_unstarted}
 use Rattle.puzzle_cli.proofs.TourRuns.{tour_unstarted}
-use Rattle.puzzle_cli.proofs.Completing.{answered}
+use Rattle.mesh_stream.proofs.Completing.{answered}
 use Rattle.puzzle_cli.proofs.run.Goals as goal
 
 -- ---- without a job

@@ -8,10 +8,10 @@ use Rattle.patch_file.specs.declared.shape.Params.{Params}
 use Rattle.build_pass.specs.Building.{store_of, IsBuildable}
 use Rattle.puzzle_cli.specs.Build.{input_store, IsLeft}
 use Rattle.run_status.specs.declared.status.Status.TheVariants as status
-use Rattle.puzzle_cli.specs.Digits.{digits_of}
+use Rattle.mesh_stream.specs.Digits.{digits_of}
 use Rattle.run_status.specs.Statuses.{IsOfStreams}
 use Rattle.tri_stream.proofs.Changes.{untold_before}
-use Rattle.puzzle_cli.proofs.ReadLemmas.{err_is}
+use Rattle.mesh_stream.proofs.ReadLemmas.{err_is}
 use Rattle.puzzle_cli.proofs.BuildSteps.{params_same, stored_never, stored_not_refused, stored_unbuilt, summary_same, unread_never, unread_unbuilt}
 use Rattle.puzzle_cli.proofs.building.store_input.Goals as goal
 

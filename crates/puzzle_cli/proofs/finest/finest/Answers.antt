@@ -3,10 +3,10 @@ use Rattle.std.proofs.Common.{◌≤◌, ◌<◌, List, length, refl, subst, inl
 use Rattle.tpz_base.specs.declared.shape.Point.{Point}
 use Rattle.diamond_graph.specs.Adding.{most_centres}
 use Rattle.run_status.specs.Statuses.{IsUnread}
-use Rattle.puzzle_cli.proofs.Completing.{unread_own}
+use Rattle.mesh_stream.proofs.Completing.{unread_own}
 use Rattle.puzzle_cli.proofs.FinestItems.{as_told, front_as_told, split_is}
 use Rattle.tri_stream.proofs.Changes.{untold_before}
-use Rattle.puzzle_cli.proofs.ReadLemmas.{told_later}
+use Rattle.mesh_stream.proofs.ReadLemmas.{told_later}
 use Rattle.run_status.proofs.StreamFaults.{split_never, split_not_of_store, split_not_refused}
 use Rattle.puzzle_cli.proofs.finest.finest.Goals as goal
 

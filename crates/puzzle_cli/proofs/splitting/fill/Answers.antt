@@ -2,8 +2,8 @@
 use Rattle.std.proofs.Common.{subst, arith}
 use Rattle.std.proofs.lemmas.List.{length-take, take_all}
 use Rattle.tpz_base.specs.Meshes.{Mesh}
-use Rattle.puzzle_cli.specs.Fills.{Fills}
-use Rattle.puzzle_cli.proofs.Filling.{fills_more, fills_none, still_live}
+use Rattle.mesh_stream.specs.Fills.{Fills}
+use Rattle.mesh_stream.proofs.Filling.{fills_more, fills_none, still_live}
 use Rattle.puzzle_cli.proofs.splitting.fill.Goals as goal
 
 pub tris-init : goal.tris-init

@@ -1,6 +1,6 @@
 -- The triangles so far have been added.
 use Rattle.std.proofs.Common.{◌≤◌, take}
-use Rattle.puzzle_cli.specs.Fills.{Fills}
+use Rattle.mesh_stream.specs.Fills.{Fills}
 use Rattle.puzzle_cli.proofs.splitting.fill.Given as goal
 
 abbrev pub invariant-tris : goal.invariant-tris

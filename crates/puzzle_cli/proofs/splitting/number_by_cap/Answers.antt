@@ -5,7 +5,7 @@ use Rattle.run_status.specs.declared.status.Status.TheVariants.{TooManyRecords}
 use Rattle.diamond_graph.specs.Adding.{ClosingState}
 use Rattle.tetra_name.proofs.NameFacts.{some_is}
 use Rattle.cut_order.proofs.LeafOrder.{on_any}
-use Rattle.puzzle_cli.proofs.ReadLemmas.{told_later, err_is}
+use Rattle.mesh_stream.proofs.ReadLemmas.{told_later, err_is}
 use Rattle.tri_stream.proofs.Changes.{untold_before}
 use Rattle.run_status.proofs.StreamFaults.{split_told, split_was_damage, split_was_fault}
 use Rattle.puzzle_cli.proofs.SplitMesh.{counted_size, few_split, many_split, split_mesh, split_too_many}

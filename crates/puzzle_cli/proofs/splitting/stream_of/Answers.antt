@@ -1,8 +1,8 @@
 -- The stream was made first, and has all.
 use Rattle.std.proofs.Common.{◌∙◌, subst}
 use Rattle.tpz_base.specs.Meshes.{Mesh}
-use Rattle.puzzle_cli.specs.Fills.{IsSourceOf}
-use Rattle.puzzle_cli.proofs.Filling.{source_of}
+use Rattle.mesh_stream.specs.Fills.{IsSourceOf}
+use Rattle.mesh_stream.proofs.Filling.{source_of}
 use Rattle.puzzle_cli.proofs.splitting.stream_of.Goals as goal
 
 pub returns-clause-holds : goal.returns-clause-holds

@@ -2,9 +2,9 @@ use Rattle.std.specs.Option.{unwrap_or}
 use Rattle.std.proofs.Common.{refl, sym, ◌∙◌, ap, subst, Err}
 use Rattle.ply_body.specs.Inputs.{InHead, InBody}
 use Rattle.run_status.specs.Statuses.{IsRefused}
-use Rattle.puzzle_cli.specs.Digits.{digits_by}
-use Rattle.puzzle_cli.proofs.ReadLemmas.{head_told, same_status, refusal_of_head, refusal_of_body, damage_of_body, input_by, opened_means}
-use Rattle.puzzle_cli.proofs.reading.open_input.Goals as goal
+use Rattle.mesh_stream.specs.Digits.{digits_by}
+use Rattle.mesh_stream.proofs.ReadLemmas.{head_told, same_status, refusal_of_head, refusal_of_body, damage_of_body, input_by, opened_means}
+use Rattle.mesh_stream.proofs.reading.open_input.Goals as goal
 
 pub returns-in-Err-clause-refused : goal.returns-in-Err-clause-refused
 returns-in-Err-clause-refused g c = λ status is refused bytes told.

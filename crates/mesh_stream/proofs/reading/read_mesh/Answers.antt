@@ -3,8 +3,8 @@ use Rattle.tpz_base.specs.Cubes.{low_of}
 use Rattle.ply_body.proofs.CubeRows.{frame_spots}
 use Rattle.run_status.specs.Statuses.{IsRefused}
 use Rattle.tri_stream.proofs.Changes.{untold_before}
-use Rattle.puzzle_cli.proofs.ReadLemmas.{same_status, accepted_by, all_read, refused_by, low_small, told_later}
-use Rattle.puzzle_cli.proofs.reading.read_mesh.Goals as goal
+use Rattle.mesh_stream.proofs.ReadLemmas.{same_status, accepted_by, all_read, refused_by, low_small, told_later}
+use Rattle.mesh_stream.proofs.reading.read_mesh.Goals as goal
 
 pub read_tris-requires-clause-frame : goal.read_tris-requires-clause-frame
 read_tris-requires-clause-frame g c = c.in-Ok.ensures.opened.kept

@@ -6,10 +6,10 @@ use Rattle.tpz_base.specs.Texts.{Face}
 use Rattle.tri_stream.specs.Lists.{IsHeld}
 use Rattle.ply_body.specs.Spots.{HoldsPoints}
 use Rattle.ply_body.specs.Readings.{coming_told, with_faces}
-use Rattle.puzzle_cli.specs.Fills.{Fills}
-use Rattle.puzzle_cli.specs.Readings.{AreWhole}
-use Rattle.puzzle_cli.proofs.ReadLemmas.{KeepsFront}
-use Rattle.puzzle_cli.proofs.reading.stream_tris.Given as goal
+use Rattle.mesh_stream.specs.Fills.{Fills}
+use Rattle.mesh_stream.specs.Readings.{AreWhole}
+use Rattle.mesh_stream.proofs.ReadLemmas.{KeepsFront}
+use Rattle.mesh_stream.proofs.reading.stream_tris.Given as goal
 
 abbrev pub invariant-tris : goal.invariant-tris
 invariant-tris g l = record {

@@ -10,7 +10,7 @@ use Rattle.tpz_base.specs.Texts.{Bytes}
 use Rattle.tri_stream.specs.Lists.{IsHeld}
 use Rattle.tri_stream.specs.declared.names.StreamId.{StreamId}
 use Rattle.tri_stream.specs.Streams.{StreamsState, count_of, list_of, told_list, total, IsLive, Keeps, LeavesOthers, Stands}
-use Rattle.puzzle_cli.specs.Fills.{Fills, IsSourceOf}
+use Rattle.mesh_stream.specs.Fills.{Fills, IsSourceOf}
 
 nothing_added : (o : Option Mesh) → o ≡ option_map (λ M. M ++ []) o
 nothing_added None = refl

@@ -13,10 +13,10 @@ use Rattle.ply_body.specs.Readings.{Reading, coming_told, with_spots}
 use Rattle.tri_stream.specs.Lists.{IsHeld}
 use Rattle.tri_stream.specs.declared.names.StreamId.{StreamId}
 use Rattle.tri_stream.specs.Streams.{count_of, told_list, total, IsLive, Stands}
-use Rattle.puzzle_cli.specs.declared.reading.InputMesh.{InputMesh}
-use Rattle.puzzle_cli.specs.declared.reading.InputStream.{InputStream}
+use Rattle.mesh_stream.specs.declared.reading.InputMesh.{InputMesh}
+use Rattle.mesh_stream.specs.declared.reading.InputStream.{InputStream}
 use Rattle.run_status.specs.declared.status.Status.{Status}
-use Rattle.puzzle_cli.specs.Digits.{digits_of, input_for}
+use Rattle.mesh_stream.specs.Digits.{digits_of, input_for}
 use Rattle.run_status.specs.Statuses.{body_status}
 
 -- The whole triangles among those of some faces, by the points that are held, and how many aren't whole.

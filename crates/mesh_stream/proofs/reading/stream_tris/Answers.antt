@@ -5,11 +5,11 @@ use Rattle.std.proofs.lemmas.List.Elements.{All-nil, All-push}
 use Rattle.tri_stream.specs.Lists.{IsHeld}
 use Rattle.tpz_base.specs.Cubes.{IsTriInCube}
 use Rattle.tri_stream.specs.Streams.{Stands}
-use Rattle.puzzle_cli.specs.Fills.{Fills}
+use Rattle.mesh_stream.specs.Fills.{Fills}
 use Rattle.run_status.specs.Statuses.{IsRefused}
-use Rattle.puzzle_cli.proofs.Filling.{fills_none, fills_one, still_live}
-use Rattle.puzzle_cli.proofs.ReadLemmas.{none_read, more_read, read_refused, read_all, none_whole, one_whole, no_more_whole, same_status, not_refused_yet, refusal_of_body, given_before, lost_before, points_kept, fronts_join, same_front, KeepsFront}
-use Rattle.puzzle_cli.proofs.reading.stream_tris.Goals as goal
+use Rattle.mesh_stream.proofs.Filling.{fills_none, fills_one, still_live}
+use Rattle.mesh_stream.proofs.ReadLemmas.{none_read, more_read, read_refused, read_all, none_whole, one_whole, no_more_whole, same_status, not_refused_yet, refusal_of_body, given_before, lost_before, points_kept, fronts_join, same_front, KeepsFront}
+use Rattle.mesh_stream.proofs.reading.stream_tris.Goals as goal
 
 pub tris-init : goal.tris-init
 tris-init g c = record {

@@ -30,9 +30,9 @@ use Rattle.ply_body.proofs.CubeRows.{frame_spots}
 use Rattle.ply_body.specs.Readings.{with_faces, with_spots, coming_told, input_told, opened, IsRefusal, Reading}
 use Rattle.run_status.specs.declared.status.Status.{Status}
 use Rattle.run_status.specs.declared.status.Status.TheVariants.{WorkDamage}
-use Rattle.puzzle_cli.specs.Digits.{digits_for, digits_of, input_for}
+use Rattle.mesh_stream.specs.Digits.{digits_for, digits_of, input_for}
 use Rattle.run_status.specs.Statuses.{head_status, body_status, status_of, IsRefused}
-use Rattle.puzzle_cli.specs.Readings.{AreWhole, HasOpened, IsInputLow, IsRefusalTold, TrisTold}
+use Rattle.mesh_stream.specs.Readings.{AreWhole, HasOpened, IsInputLow, IsRefusalTold, TrisTold}
 
 abbrev Coming : Type 0
 Coming = Option (Result (List Face) BodyFault)

@@ -8,8 +8,8 @@ use Rattle.ply_body.specs.Inputs.{Refusal}
 use Rattle.diamond_graph.specs.Adding.{most_centres}
 use Rattle.run_status.specs.declared.status.Status.{Status}
 use Rattle.run_status.specs.declared.status.Status.TheVariants as status
-use Rattle.puzzle_cli.specs.Splits.{finest_split}
-use Rattle.puzzle_cli.specs.Digits.{input_for, IsAccepted}
+use Rattle.mesh_stream.specs.Splits.{finest_split}
+use Rattle.mesh_stream.specs.Digits.{input_for, IsAccepted}
 use Rattle.run_status.specs.Statuses.{status_of, IsRefused, IsOfStore, IsUnread}
 
 -- the answer is the input's, or want of memory

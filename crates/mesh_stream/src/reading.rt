@@ -12,10 +12,10 @@ ghost use Rattle.tpz_base.specs.Meshes.{Mesh};
 ghost use Rattle.tri_stream.specs.Lists.{IsHeld};
 ghost use Rattle.tri_stream.specs.Streams.{total, IsLive, Stands};
 ghost use Rattle.run_status.specs.declared.status.Status.{Status};
-ghost use Rattle.puzzle_cli.specs.Digits.{digits_of, input_for, IsAccepted};
-ghost use Rattle.puzzle_cli.specs.Readings.{IsMeshOf};
-ghost use Rattle.puzzle_cli.specs.Fills.{Fills};
-ghost use Rattle.puzzle_cli.specs.Readings.{HasOpened, IsRefusalTold, IsSmallMesh, IsSmallStream, IsStreamOf, TrisTold};
+ghost use Rattle.mesh_stream.specs.Digits.{digits_of, input_for, IsAccepted};
+ghost use Rattle.mesh_stream.specs.Readings.{IsMeshOf};
+ghost use Rattle.mesh_stream.specs.Fills.{Fills};
+ghost use Rattle.mesh_stream.specs.Readings.{HasOpened, IsRefusalTold, IsSmallMesh, IsSmallStream, IsStreamOf, TrisTold};
 ghost use Rattle.run_status.specs.Statuses.{status_of, IsRefused, IsUnread};
 
 use ply_body::{Faces, Frame};

@@ -6,9 +6,9 @@ use Rattle.std.proofs.lemmas.List.{length_push}
 use Rattle.std.proofs.lemmas.List.Elements.{All-nil, All-push}
 use Rattle.tri_stream.specs.Lists.{IsHeld}
 use Rattle.ply_body.specs.Spots.{HoldsPoints}
-use Rattle.puzzle_cli.specs.Readings.{AreWhole}
-use Rattle.puzzle_cli.proofs.ReadLemmas.{none_read, more_read, read_refused, read_all, none_whole, one_whole, no_more_whole, same_status, not_refused_yet, refusal_of_body, AllLost, OneGiven}
-use Rattle.puzzle_cli.proofs.reading.read_tris.Goals as goal
+use Rattle.mesh_stream.specs.Readings.{AreWhole}
+use Rattle.mesh_stream.proofs.ReadLemmas.{none_read, more_read, read_refused, read_all, none_whole, one_whole, no_more_whole, same_status, not_refused_yet, refusal_of_body, AllLost, OneGiven}
+use Rattle.mesh_stream.proofs.reading.read_tris.Goals as goal
 
 pub tris-init : goal.tris-init
 tris-init g c = record {
