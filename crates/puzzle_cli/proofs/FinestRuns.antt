@@ -6,7 +6,7 @@ use Rattle.tpz_base.specs.Cubes.{level_bound}
 use Rattle.ply_body.specs.Inputs.{mesh_of}
 use Rattle.run_status.specs.declared.status.Status.TheVariants as status
 use Rattle.puzzle_cli.specs.FinestRuns.{FinestRun}
-use Rattle.puzzle_cli.proofs.RootCut.{each_once}
+use Rattle.finest_cut.proofs.RootCut.{each_once}
 use Rattle.puzzle_cli.proofs.Exports.{none_yet, nothing}
 
 pub finest_unstarted : (digits cap : Option ℕ) (left held : Option Bytes) (input_failed work_failed out_failed : Type 0) (p : Option (List Bytes)) (n : Option Bytes)

@@ -1,9 +1,7 @@
 pub mod Exports
-pub mod RootCut
 pub mod JobRuns
 pub mod BuildRuns
 pub mod BuildSteps
-pub mod SplitMesh
 pub mod InfoLemmas
 mod ShownLaw
 mod OpenLaw

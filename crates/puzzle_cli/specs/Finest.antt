@@ -7,7 +7,7 @@ use Rattle.tpz_base.specs.Texts.{Bytes, Face, vertices, text}
 use Rattle.ply_body.specs.Inputs.{mesh_of, dropped_of}
 use Rattle.mesh_stream.specs.declared.reading.Facts.{Facts}
 use Rattle.cut_export.specs.Parts.{row_of}
-use Rattle.puzzle_cli.specs.Cuts.{finest_mesh}
+use Rattle.finest_cut.specs.Cuts.{finest_mesh}
 
 abbrev pub finest_note : ℕ → ℕ → ℕ → Bytes
 finest_note tris dropped vertices =

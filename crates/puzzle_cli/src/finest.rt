@@ -15,8 +15,8 @@ ghost use Rattle.mesh_stream.specs.Readings.{IsInputLow};
 ghost use Rattle.run_status.specs.Statuses.{status_of, IsOfStore, IsRefused};
 
 use crate::export::write_part_and_note;
-use crate::splitting::number;
 use cut_export::{ExportFault, Numbered};
+use finest_cut::number;
 use mesh_stream::{Facts, read_mesh};
 use run_status::Status;
 use std::alloc::{AllocError, Global};

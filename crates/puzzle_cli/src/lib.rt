@@ -20,7 +20,6 @@ mod finest;
 mod generate;
 mod info;
 mod replaying;
-mod splitting;
 mod touring;
 
 use building::Plan;

@@ -6,7 +6,7 @@ use Rattle.ply_body.specs.Inputs.{mesh_of}
 use Rattle.command_words.specs.declared.jobs.Job.TheVariants.{Finest, Build, Gen, Info, Replay, Tour}
 use Rattle.run_status.specs.declared.status.Status.TheVariants as status
 use Rattle.puzzle_cli.specs.Touches.{Devices}
-use Rattle.puzzle_cli.proofs.RootCut.{each_once}
+use Rattle.finest_cut.proofs.RootCut.{each_once}
 use Rattle.command_words.proofs.JobRanges.{asked_digits, asked_plan, asked_replay, asked_size, asked_tour, asked_tries}
 use Rattle.puzzle_cli.proofs.JobRuns.{same_build, same_finest, same_gen, same_info, same_replay, other_job, some_or_none, touched, same_tour}
 use Rattle.puzzle_cli.proofs.FinestRuns.{finest_unstarted}

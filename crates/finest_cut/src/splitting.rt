@@ -9,7 +9,7 @@ ghost use Rattle.tri_stream.specs.declared.names.StreamId.{StreamId};
 ghost use Rattle.tri_stream.specs.declared.fault.StreamFault.{StreamFault};
 ghost use Rattle.tri_stream.specs.Streams.{count_of, told_list, total, IsLive, Stands};
 ghost use Rattle.run_status.specs.declared.status.Status.{Status};
-ghost use Rattle.puzzle_cli.specs.Cuts.{mesh_for};
+ghost use Rattle.finest_cut.specs.Cuts.{mesh_for};
 ghost use Rattle.mesh_stream.specs.Splits.{split_for};
 ghost use Rattle.cut_export.specs.Numbering.{numbered_mesh, IsNumbering};
 ghost use Rattle.mesh_stream.specs.Readings.{IsSmallMesh};

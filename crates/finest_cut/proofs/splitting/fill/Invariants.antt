@@ -1,7 +1,7 @@
 -- The triangles so far have been added.
 use Rattle.std.proofs.Common.{◌≤◌, take}
 use Rattle.mesh_stream.specs.Fills.{Fills}
-use Rattle.puzzle_cli.proofs.splitting.fill.Given as goal
+use Rattle.finest_cut.proofs.splitting.fill.Given as goal
 
 abbrev pub invariant-tris : goal.invariant-tris
 invariant-tris g l = record {

@@ -15,7 +15,7 @@ use Rattle.assign.specs.Standing.{HoldsPatches}
 use Rattle.split_pass.specs.declared.fault.SplitFault.{SplitFault}
 use Rattle.split_pass.specs.declared.fault.SplitFault.TheVariants as split
 use Rattle.run_status.specs.declared.status.Status.TheVariants.{TooManyRecords}
-use Rattle.puzzle_cli.specs.Cuts.{mesh_for}
+use Rattle.finest_cut.specs.Cuts.{mesh_for}
 use Rattle.run_status.specs.Statuses.{split_status}
 
 pub split_mesh : (l cap : ℕ) (tris : Mesh) (graph : GraphState) (level : ℕ) (leaves : LeafTable) (s : StreamsState) (told : Option Bytes) (N : Mesh)

@@ -4,7 +4,7 @@ use Rattle.std.proofs.lemmas.List.{length-take, take_all}
 use Rattle.tpz_base.specs.Meshes.{Mesh}
 use Rattle.mesh_stream.specs.Fills.{Fills}
 use Rattle.mesh_stream.proofs.Filling.{fills_more, fills_none, still_live}
-use Rattle.puzzle_cli.proofs.splitting.fill.Goals as goal
+use Rattle.finest_cut.proofs.splitting.fill.Goals as goal
 
 pub tris-init : goal.tris-init
 tris-init g c = record { filled = fills_none c.args.id c.args.streams.now _ c.requires.stands; later = omega arith }

@@ -3,7 +3,7 @@ use Rattle.std.proofs.Common.{◌∙◌, subst}
 use Rattle.tpz_base.specs.Meshes.{Mesh}
 use Rattle.mesh_stream.specs.Fills.{IsSourceOf}
 use Rattle.mesh_stream.proofs.Filling.{source_of}
-use Rattle.puzzle_cli.proofs.splitting.stream_of.Goals as goal
+use Rattle.finest_cut.proofs.splitting.stream_of.Goals as goal
 
 pub returns-clause-holds : goal.returns-clause-holds
 returns-clause-holds g c =

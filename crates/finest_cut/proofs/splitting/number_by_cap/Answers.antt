@@ -8,8 +8,8 @@ use Rattle.cut_order.proofs.LeafOrder.{on_any}
 use Rattle.mesh_stream.proofs.ReadLemmas.{told_later, err_is}
 use Rattle.tri_stream.proofs.Changes.{untold_before}
 use Rattle.run_status.proofs.StreamFaults.{split_told, split_was_damage, split_was_fault}
-use Rattle.puzzle_cli.proofs.SplitMesh.{counted_size, few_split, many_split, split_mesh, split_too_many}
-use Rattle.puzzle_cli.proofs.splitting.number_by_cap.Goals as goal
+use Rattle.finest_cut.proofs.SplitMesh.{counted_size, few_split, many_split, split_mesh, split_too_many}
+use Rattle.finest_cut.proofs.splitting.number_by_cap.Goals as goal
 
 pub split-requires-clause-l : goal.split-requires-clause-l
 split-requires-clause-l g c = ap (λ (closing : ClosingState). closing.l) c.new-closing.ensures ∙ sym c.in_ok-source.ensures.holds.level

@@ -1,9 +1,9 @@
 -- Without a cap the mesh is that of the roots, and no diamond is split.
 use Rattle.std.proofs.Common.{◌≡◌, ℕ, ◌∙◌, sym, subst, Option}
 use Rattle.tpz_base.specs.Roots.{mesh_by_roots}
-use Rattle.puzzle_cli.specs.Cuts.{mesh_for}
-use Rattle.puzzle_cli.proofs.RootCut.{by_roots}
-use Rattle.puzzle_cli.proofs.splitting.number.Goals as goal
+use Rattle.finest_cut.specs.Cuts.{mesh_for}
+use Rattle.finest_cut.proofs.RootCut.{by_roots}
+use Rattle.finest_cut.proofs.splitting.number.Goals as goal
 
 pub returns-in_ok-number_by_roots-in-None-clause-mesh : goal.returns-in_ok-number_by_roots-in-None-clause-mesh
 returns-in_ok-number_by_roots-in-None-clause-mesh g c = λ held keeps.

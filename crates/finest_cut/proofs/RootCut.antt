@@ -6,7 +6,7 @@ use Rattle.tpz_base.specs.Roots.{mesh_by_roots}
 use Rattle.tpz_base.proofs.RootMesh.{root_mesh_is, root_mesh_same}
 use Rattle.assign.proofs.LeafFacts.{finest-none}
 use Rattle.assign.proofs.SplitLaw.{split_finest}
-use Rattle.puzzle_cli.specs.Cuts.{mesh_for}
+use Rattle.finest_cut.specs.Cuts.{mesh_for}
 
 pub by_roots : (L : ℕ) (M : Mesh) → mesh_for None L M ≡ mesh_by_roots M
 unfolding mesh_for
