@@ -3,14 +3,11 @@ pub mod JobRuns
 pub mod BuildRuns
 pub mod BuildSteps
 pub mod InfoLemmas
-mod ShownLaw
-mod OpenLaw
 mod PlayLaw
 mod Progress
 mod ReplayRuns
 mod TourRuns
 pub mod FinestItems
-pub mod Opening
 pub mod OutAnswers
 pub mod FinestRuns
 pub mod GenRuns

@@ -36,15 +36,15 @@ use Rattle.view_cut.proofs.PlaceLaw.{wanted_at}
 use Rattle.run_status.specs.declared.status.Status.{Status}
 use Rattle.run_status.specs.declared.status.Status.TheVariants as status
 use Rattle.run_status.specs.declared.status.ReadAt.TheVariants as read_at
-use Rattle.puzzle_cli.specs.declared.cut_blocks.Shown.{Shown}
+use Rattle.cut_blocks.specs.declared.blocks.Shown.{Shown}
 use Rattle.puzzle_cli.specs.Plays.{Play, cut_of, numbers_of, part_of, shows, step, view_at}
-use Rattle.puzzle_cli.specs.WrongBlocks.{Stored, first_wrong, wrong_at, wrong_block}
+use Rattle.cut_blocks.specs.WrongBlocks.{Stored, first_wrong, wrong_at, wrong_block}
 use Rattle.puzzle_cli.specs.declared.replaying.Player.{Player}
 use Rattle.puzzle_cli.specs.Playing.{IsPlaying}
-use Rattle.puzzle_cli.proofs.ShownLaw.{counts_both}
-use Rattle.puzzle_cli.specs.Shown.{all_patches, is_read_fault, outer_patches_at, shown_patches, stored_in, IsOpen}
+use Rattle.cut_blocks.proofs.ShownLaw.{counts_both}
+use Rattle.cut_blocks.specs.Shown.{all_patches, is_read_fault, outer_patches_at, shown_patches, stored_in, IsOpen}
 use Rattle.run_status.specs.Statuses.{export_status, IsOfLines}
-use Rattle.puzzle_cli.proofs.OpenLaw.{of_table, row_there}
+use Rattle.cut_blocks.proofs.OpenLaw.{of_table, row_there}
 
 -- ---- what a part shows
 

@@ -29,10 +29,10 @@ use Rattle.puzzle_cli.proofs.Exports.{nothing}
 use Rattle.patch_file.specs.Reading.{ReaderState}
 use Rattle.puzzle_cli.specs.declared.replaying.Player.{Player}
 use Rattle.puzzle_cli.specs.Plays.{Play, asks, lines_of, play, played_on, shows, start, step}
-use Rattle.puzzle_cli.specs.WrongBlocks.{Stored, first_wrong}
+use Rattle.cut_blocks.specs.WrongBlocks.{Stored, first_wrong}
 use Rattle.puzzle_cli.specs.Playing.{HasPlayed, IsPlaying}
-use Rattle.puzzle_cli.specs.Shown.{is_read_fault, stored_in}
-use Rattle.puzzle_cli.proofs.OpenLaw.{first_wrong_both}
+use Rattle.cut_blocks.specs.Shown.{is_read_fault, stored_in}
+use Rattle.cut_blocks.proofs.OpenLaw.{first_wrong_both}
 
 -- ---- what is written, one after another
 

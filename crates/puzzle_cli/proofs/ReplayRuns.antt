@@ -43,16 +43,16 @@ use Rattle.run_status.specs.declared.status.Status.{Status}
 use Rattle.run_status.specs.declared.status.Status.TheVariants as status
 use Rattle.run_status.specs.declared.status.ReadAt.{ReadAt}
 use Rattle.run_status.specs.declared.status.ReadAt.TheVariants as read_at
-use Rattle.puzzle_cli.specs.WrongBlocks.{Stored, first_wrong, wrong_at, wrong_block}
+use Rattle.cut_blocks.specs.WrongBlocks.{Stored, first_wrong, wrong_at, wrong_block}
 use Rattle.puzzle_cli.specs.Plays.{cut_of, end_of, lines_of, played, replay_note, tests_of}
 use Rattle.puzzle_cli.specs.Playing.{HasPlayed}
 use Rattle.puzzle_cli.specs.ReplayRuns.{HasReplayed, ReplayRun}
-use Rattle.puzzle_cli.specs.Shown.{is_read_fault, stored_in, AreCounted, IsOpen}
+use Rattle.cut_blocks.specs.Shown.{is_read_fault, stored_in, AreCounted, IsOpen}
 use Rattle.run_status.specs.Statuses.{open_status, IsOfLines, IsOfReplay}
 use Rattle.puzzle_cli.proofs.Exports.{none_yet, nothing}
-use Rattle.puzzle_cli.proofs.Opening.{ends_failed, refused_by_open}
+use Rattle.cut_blocks.proofs.Opening.{ends_failed, refused_by_open}
 use Rattle.puzzle_cli.proofs.OutAnswers.{IsGenAnswer, never}
-use Rattle.puzzle_cli.proofs.OpenLaw.{never_wrong, of_table}
+use Rattle.cut_blocks.proofs.OpenLaw.{never_wrong, of_table}
 use Rattle.puzzle_cli.proofs.Progress.{wrote_both, wrote_front, wrote_none}
 
 -- ---- a store is read as one table

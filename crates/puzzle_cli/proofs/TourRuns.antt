@@ -12,7 +12,7 @@ use Rattle.build_pass.specs.Building.{table}
 use Rattle.puzzle_cli.specs.Build.{params_of}
 use Rattle.mesh_stream.specs.Digits.{digits_of, input_for}
 use Rattle.mesh_stream.specs.Splits.{finest_split}
-use Rattle.puzzle_cli.specs.WrongBlocks.{Stored}
+use Rattle.cut_blocks.specs.WrongBlocks.{Stored}
 use Rattle.puzzle_cli.specs.Plays.{end_of, lines_of, played}
 use Rattle.puzzle_cli.specs.Replay.{IsFaithful}
 use Rattle.run_status.specs.Statuses.{status_of}

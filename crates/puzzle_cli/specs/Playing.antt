@@ -9,8 +9,8 @@ use Rattle.view_cut.specs.Sets.{IsConformingSet}
 use Rattle.view_cut.specs.Views.{counted_by}
 use Rattle.puzzle_cli.specs.declared.replaying.Player.{Player}
 use Rattle.puzzle_cli.specs.Plays.{Play, numbers_of}
-use Rattle.puzzle_cli.specs.WrongBlocks.{Stored, first_wrong}
-use Rattle.puzzle_cli.specs.Shown.{IsOpen}
+use Rattle.cut_blocks.specs.WrongBlocks.{Stored, first_wrong}
+use Rattle.cut_blocks.specs.Shown.{IsOpen}
 
 -- the reader and the graph are those of the store, and the records that the last view wants are a conforming set
 pub record IsReady (told : Option Bytes) (reader : ReaderState) (player : Player) : Type 0 where

@@ -15,7 +15,7 @@ use Rattle.run_status.specs.declared.status.Status.{Status}
 use Rattle.run_status.specs.declared.status.Status.TheVariants as status
 use Rattle.patch_file.specs.Tables.{Table, entries_of}
 use Rattle.patch_file.specs.Patches.{mesh_of_cut}
-use Rattle.puzzle_cli.specs.WrongBlocks.{Stored}
+use Rattle.cut_blocks.specs.WrongBlocks.{Stored}
 
 -- a view of a script, whose eye is given in scaled coordinates of the input
 abbrev pub view_at : List ℤ → ℤ → ℤ → ℤ → ℕ → View

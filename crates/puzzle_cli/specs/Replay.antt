@@ -10,7 +10,7 @@ use Rattle.patch_file.specs.Stores.{read}
 use Rattle.build_pass.specs.Building.{table}
 use Rattle.view_cut.specs.declared.wanting.View.{View}
 use Rattle.puzzle_cli.specs.Plays.{cut_of}
-use Rattle.puzzle_cli.specs.WrongBlocks.{first_wrong}
+use Rattle.cut_blocks.specs.WrongBlocks.{first_wrong}
 
 -- The bytes of a store that was built of a mesh are read as its table, with no wrong block; whatever the view, the mesh that is written has the signed
 -- edge sums of M and a representative of each of its vertices, and the mesh of all diamonds holds the triangles of M, each once.

@@ -19,7 +19,7 @@ use Rattle.view_cut.specs.declared.wanting.View.{View}
 use Rattle.run_status.specs.declared.status.ReadAt.{ReadAt}
 use Rattle.build_pass.specs.Building.{store_of, IsBuildable}
 use Rattle.puzzle_cli.specs.Replay.{IsFaithful}
-use Rattle.puzzle_cli.specs.WrongBlocks.{Stored, first_wrong, wrong_at}
+use Rattle.cut_blocks.specs.WrongBlocks.{Stored, first_wrong, wrong_at}
 use Rattle.puzzle_cli.specs.Plays.{cut_of, end_of, lines_of, played, replay_note, tests_of}
 use Rattle.run_status.specs.declared.status.Status.{Status}
 use Rattle.run_status.specs.declared.status.Status.TheVariants as status

@@ -18,13 +18,13 @@ ghost use Rattle.patch_file.specs.Reading.{IsRightParams};
 ghost use Rattle.run_status.specs.declared.status.Status.{Status};
 ghost use Rattle.run_status.specs.declared.status.ReadAt.{ReadAt};
 ghost use Rattle.puzzle_cli.specs.Plays.{Play, asks, lines_of, played, replay_note, shows, step, view_at};
-ghost use Rattle.puzzle_cli.specs.WrongBlocks.{first_wrong, wrong_at};
+ghost use Rattle.cut_blocks.specs.WrongBlocks.{first_wrong, wrong_at};
 ghost use Rattle.puzzle_cli.specs.Playing.{HasPlayed, IsPlaying, IsReady};
-ghost use Rattle.puzzle_cli.specs.Shown.{is_unread, stored_in, AreCounted};
+ghost use Rattle.cut_blocks.specs.Shown.{is_unread, stored_in, AreCounted};
 ghost use Rattle.run_status.specs.Statuses.{IsOfLines, IsOfReplay};
 ghost use Rattle.puzzle_cli.specs.ReplayRuns.{ReplayRun};
 
-use crate::cut_blocks::{read_cut, views_of};
+use cut_blocks::{read_cut, views_of};
 use cut_export::write_mesh;
 use diamond_graph::Graph;
 use patch_file::{Params, StoreReader};

@@ -2,7 +2,7 @@
 use Rattle.std.proofs.Common.{refl, sym, ◌∙◌, ap, subst, inl, inr, Err}
 use Rattle.tpz_io.specs.Writes.{Wrote}
 use Rattle.puzzle_cli.proofs.InfoLemmas.{opened_items}
-use Rattle.puzzle_cli.proofs.Opening.{ends_failed, refused_by_open, failed_by_open, spent_is}
+use Rattle.cut_blocks.proofs.Opening.{ends_failed, refused_by_open, failed_by_open, spent_is}
 use Rattle.puzzle_cli.proofs.OutAnswers.{isnt}
 use Rattle.puzzle_cli.proofs.info.info.Goals as goal
 

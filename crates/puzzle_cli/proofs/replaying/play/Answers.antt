@@ -1,11 +1,11 @@
 -- Line after line.
 use Rattle.std.proofs.Common.{◌∙◌, ◌+◌, ◌<◌, OnSome, ap, refl, sym, subst, arith, Ok, Err}
 use Rattle.run_status.specs.Statuses.{IsOfLines}
-use Rattle.puzzle_cli.specs.Shown.{stored_in}
+use Rattle.cut_blocks.specs.Shown.{stored_in}
 use Rattle.puzzle_cli.specs.Plays.{play}
 use Rattle.patch_file.proofs.AskingLaw.{asked_both}
-use Rattle.puzzle_cli.proofs.OpenLaw.{same_status}
-use Rattle.puzzle_cli.proofs.ShownLaw.{counted_none, counted_both}
+use Rattle.cut_blocks.proofs.OpenLaw.{same_status}
+use Rattle.cut_blocks.proofs.ShownLaw.{counted_none, counted_both}
 use Rattle.puzzle_cli.proofs.Progress.{asked_script, begun, calls_so_far, calls_with, ended, ended_well, front_none, front_so_far, lines_told, progressed, rose_later, script_bad, script_input, script_no_bad, script_no_out, script_no_read, script_of_lines, spent_with, wrong_with}
 use Rattle.puzzle_cli.proofs.replaying.play.Goals as goal
 

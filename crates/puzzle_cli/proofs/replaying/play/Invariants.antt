@@ -2,7 +2,7 @@ use Rattle.std.proofs.Common.{◌≡◌, ◌≤◌, ◌-◌}
 use Rattle.script_text.specs.Commands.{read_line}
 use Rattle.script_text.specs.Scripts.{script_left}
 use Rattle.puzzle_cli.specs.Playing.{IsReady}
-use Rattle.puzzle_cli.specs.Shown.{AreCounted}
+use Rattle.cut_blocks.specs.Shown.{AreCounted}
 use Rattle.puzzle_cli.proofs.Progress.{Progress}
 use Rattle.puzzle_cli.proofs.replaying.play.Given as goal
 

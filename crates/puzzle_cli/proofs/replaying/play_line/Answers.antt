@@ -11,12 +11,12 @@ use Rattle.script_text.specs.Commands.{is_in_bounds, is_near}
 use Rattle.patch_file.specs.declared.shape.Params.{Params}
 use Rattle.patch_file.proofs.AskingLaw.{asked_none}
 use Rattle.puzzle_cli.specs.Plays.{asks, shows, step, view_at}
-use Rattle.puzzle_cli.specs.WrongBlocks.{first_wrong}
+use Rattle.cut_blocks.specs.WrongBlocks.{first_wrong}
 use Rattle.puzzle_cli.specs.Playing.{IsPlaying}
-use Rattle.puzzle_cli.specs.Shown.{stored_in}
+use Rattle.cut_blocks.specs.Shown.{stored_in}
 use Rattle.puzzle_cli.proofs.Exports.{nothing}
-use Rattle.puzzle_cli.proofs.OpenLaw.{found_wrong, no_wrong}
-use Rattle.puzzle_cli.proofs.ShownLaw.{asked_refused_at}
+use Rattle.cut_blocks.proofs.OpenLaw.{found_wrong, no_wrong}
+use Rattle.cut_blocks.proofs.ShownLaw.{asked_refused_at}
 use Rattle.puzzle_cli.proofs.PlayLaw.{looked_is, on_err, on_err_map, on_ok, open_kept, part_is, written_is}
 use Rattle.puzzle_cli.proofs.replaying.play_line.Goals as goal
 

@@ -1,7 +1,7 @@
 -- The opening, the lines, and the note.
 use Rattle.std.proofs.Common.{ap, refl, ◌∙◌, subst, inl, inr, Err}
 use Rattle.run_status.specs.declared.status.Status.TheVariants as status
-use Rattle.puzzle_cli.specs.Shown.{AreCounted}
+use Rattle.cut_blocks.specs.Shown.{AreCounted}
 use Rattle.puzzle_cli.proofs.OutAnswers.{isnt}
 use Rattle.puzzle_cli.proofs.Progress.{rose_later}
 use Rattle.puzzle_cli.proofs.ReplayRuns.{counted_asked, finished_run, lines_of_replay, note_of_replay, open_start, unfinished_run, unopened_run}

@@ -10,10 +10,10 @@ use Rattle.patch_view.specs.Views.{mesh_of}
 use Rattle.patch_file.specs.declared.shape.Params.{Params}
 use Rattle.patch_file.specs.Patches.{joined}
 use Rattle.patch_file.specs.Tables.{Contents}
-use Rattle.puzzle_cli.specs.declared.cut_blocks.Shown.{Shown}
-use Rattle.puzzle_cli.specs.Shown.{all_patches, IsNamed}
+use Rattle.cut_blocks.specs.declared.blocks.Shown.{Shown}
+use Rattle.cut_blocks.specs.Shown.{all_patches, IsNamed}
 use Rattle.run_status.specs.Statuses.{IsOfLines}
-use Rattle.puzzle_cli.proofs.OpenLaw.{same_l, same_status}
+use Rattle.cut_blocks.proofs.OpenLaw.{same_l, same_status}
 use Rattle.puzzle_cli.proofs.PlayLaw.{asked_export, export_no_bad, export_no_read, export_of_lines, low_near, part_shown, told_record}
 use Rattle.puzzle_cli.proofs.replaying.write_cut.Goals as goal
 
