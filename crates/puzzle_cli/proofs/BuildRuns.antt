@@ -18,8 +18,8 @@ use Rattle.mesh_stream.specs.Splits.{finest_split}
 use Rattle.puzzle_cli.specs.BuildRuns.{BuildRun}
 use Rattle.run_status.specs.Statuses.{status_of, IsOfStore, IsRefused, IsUnbuilt}
 use Rattle.mesh_stream.proofs.Completing.{answered}
-use Rattle.puzzle_cli.proofs.Exports.{none_yet, nothing}
-use Rattle.puzzle_cli.proofs.OutAnswers.{never, IsGenAnswer}
+use Rattle.mesh_output.proofs.Exports.{none_yet, nothing}
+use Rattle.mesh_output.proofs.OutAnswers.{never, IsGenAnswer}
 
 pub build_unstarted : (digits : Option ℕ) (cap budget : ℕ) (left worked held : Option Bytes) (reads : ℕ) (untouched input_failed work_failed store_failed out_failed : Type 0) (p : Option (List Bytes)) (n : Option Bytes)
     → BuildRun digits cap budget left worked held held reads reads untouched input_failed work_failed store_failed out_failed p p n n status.Memory

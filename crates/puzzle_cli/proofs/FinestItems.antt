@@ -13,7 +13,7 @@ use Rattle.puzzle_cli.specs.Finest.{finest_items, finest_note, items_for, items_
 use Rattle.mesh_stream.specs.Splits.{finest_split, split_for}
 use Rattle.finest_cut.specs.Cuts.{mesh_for}
 use Rattle.mesh_stream.specs.Readings.{IsMeshOf}
-use Rattle.puzzle_cli.specs.Exports.{mesh_items}
+use Rattle.mesh_output.specs.Exports.{mesh_items}
 use Rattle.cut_export.specs.Numbering.{numbered_mesh, IsNumbering}
 use Rattle.cut_export.specs.Parts.{row_of}
 

@@ -7,7 +7,7 @@ use Rattle.ply_body.specs.Inputs.{mesh_of}
 use Rattle.run_status.specs.declared.status.Status.TheVariants as status
 use Rattle.puzzle_cli.specs.FinestRuns.{FinestRun}
 use Rattle.finest_cut.proofs.RootCut.{each_once}
-use Rattle.puzzle_cli.proofs.Exports.{none_yet, nothing}
+use Rattle.mesh_output.proofs.Exports.{none_yet, nothing}
 
 pub finest_unstarted : (digits cap : Option ℕ) (left held : Option Bytes) (input_failed work_failed out_failed : Type 0) (p : Option (List Bytes)) (n : Option Bytes)
     → FinestRun digits cap left held input_failed work_failed out_failed p p n n status.Memory

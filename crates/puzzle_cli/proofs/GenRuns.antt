@@ -7,8 +7,8 @@ use Rattle.run_status.specs.declared.status.Status.{Status}
 use Rattle.run_status.specs.declared.status.Status.TheVariants as status
 use Rattle.puzzle_cli.specs.Gen.{gen_items}
 use Rattle.puzzle_cli.specs.GenRuns.{GenRun}
-use Rattle.puzzle_cli.proofs.Exports.{none_yet}
-use Rattle.puzzle_cli.proofs.OutAnswers.{IsGenAnswer}
+use Rattle.mesh_output.proofs.Exports.{none_yet}
+use Rattle.mesh_output.proofs.OutAnswers.{IsGenAnswer}
 
 pub gen_unstarted : (size : ℕ) (out_failed : Type 0) (p : Option (List Bytes)) (n : Option Bytes) → GenRun size out_failed p p n n status.Memory
 gen_unstarted size out_failed p n = record {

@@ -13,7 +13,7 @@ use Rattle.run_status.specs.declared.status.ReadAt.TheVariants as read_at
 use Rattle.run_status.specs.declared.status.Status.{Status}
 use Rattle.run_status.specs.declared.status.Status.TheVariants as status
 use Rattle.puzzle_cli.specs.InfoRuns.{InfoRun}
-use Rattle.puzzle_cli.proofs.Exports.{none_yet, nothing}
+use Rattle.mesh_output.proofs.Exports.{none_yet, nothing}
 
 pub info_unstarted : (tries : ℕ) (held : Option Bytes) (outcomes : Option (List Bool)) (read_failed out_failed : Type 0) (p : Option (List Bytes)) (n : Option Bytes)
     → InfoRun tries held held outcomes read_failed out_failed p p n n status.Memory

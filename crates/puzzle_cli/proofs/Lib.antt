@@ -1,4 +1,3 @@
-pub mod Exports
 pub mod JobRuns
 pub mod BuildRuns
 pub mod BuildSteps
@@ -8,7 +7,6 @@ mod Progress
 mod ReplayRuns
 mod TourRuns
 pub mod FinestItems
-pub mod OutAnswers
 pub mod FinestRuns
 pub mod GenRuns
 pub mod InfoRuns

@@ -25,7 +25,7 @@ use Rattle.run_status.specs.Statuses.{script_status, IsOfLines}
 use Rattle.patch_file.specs.Asking.{HasAsked}
 use Rattle.patch_file.proofs.AskingLaw.{asked_both, asked_none, asked_refused}
 use Rattle.view_cut.specs.Views.{counted_by}
-use Rattle.puzzle_cli.proofs.Exports.{nothing}
+use Rattle.mesh_output.proofs.Exports.{nothing}
 use Rattle.patch_file.specs.Reading.{ReaderState}
 use Rattle.puzzle_cli.specs.declared.replaying.Player.{Player}
 use Rattle.puzzle_cli.specs.Plays.{Play, asks, lines_of, play, played_on, shows, start, step}

@@ -49,9 +49,9 @@ use Rattle.puzzle_cli.specs.Playing.{HasPlayed}
 use Rattle.puzzle_cli.specs.ReplayRuns.{HasReplayed, ReplayRun}
 use Rattle.cut_blocks.specs.Shown.{is_read_fault, stored_in, AreCounted, IsOpen}
 use Rattle.run_status.specs.Statuses.{open_status, IsOfLines, IsOfReplay}
-use Rattle.puzzle_cli.proofs.Exports.{none_yet, nothing}
+use Rattle.mesh_output.proofs.Exports.{none_yet, nothing}
 use Rattle.cut_blocks.proofs.Opening.{ends_failed, refused_by_open}
-use Rattle.puzzle_cli.proofs.OutAnswers.{IsGenAnswer, never}
+use Rattle.mesh_output.proofs.OutAnswers.{IsGenAnswer, never}
 use Rattle.cut_blocks.proofs.OpenLaw.{never_wrong, of_table}
 use Rattle.puzzle_cli.proofs.Progress.{wrote_both, wrote_front, wrote_none}
 

@@ -26,7 +26,7 @@ use Rattle.run_status.specs.declared.status.Status.TheVariants as status
 use Rattle.puzzle_cli.specs.BuildRuns.{BuildRun}
 use Rattle.puzzle_cli.specs.ReplayRuns.{ReplayRun, TourRun}
 use Rattle.puzzle_cli.proofs.BuildRuns.{build_unstarted}
-use Rattle.puzzle_cli.proofs.Exports.{nothing}
+use Rattle.mesh_output.proofs.Exports.{nothing}
 
 -- a build that is Ok, whatever wasn't touched
 pub build_other : (digits : Option ℕ) (cap budget : ℕ) (left worked held held' : Option Bytes) (reads reads' : ℕ) (u v input_failed work_failed store_failed out_failed : Type 0) (p0 p1 : Option (List Bytes)) (n0 n1 : Option Bytes) (answer : Status)

@@ -4,7 +4,7 @@ use Rattle.tpz_io.specs.Writes.{Item}
 use Rattle.tpz_base.specs.Texts.{Bytes}
 use Rattle.mesh_gen.specs.Generator.{generated}
 use Rattle.cut_export.specs.Parts.{row_at}
-use Rattle.puzzle_cli.specs.Exports.{mesh_items}
+use Rattle.mesh_output.specs.Exports.{mesh_items}
 
 abbrev pub gen_note : ℕ → ℕ → Bytes
 gen_note size tris = codes "gen size " ++ (decimal size ++ (codes " tris " ++ decimal tris))

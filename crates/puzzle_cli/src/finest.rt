@@ -14,9 +14,9 @@ ghost use Rattle.cut_export.specs.Numbering.{numbered_mesh, IsNumbering};
 ghost use Rattle.mesh_stream.specs.Readings.{IsInputLow};
 ghost use Rattle.run_status.specs.Statuses.{status_of, IsOfStore, IsRefused};
 
-use crate::export::write_part_and_note;
 use cut_export::{ExportFault, Numbered};
 use finest_cut::number;
+use mesh_output::write_part_and_note;
 use mesh_stream::{Facts, read_mesh};
 use run_status::Status;
 use std::alloc::{AllocError, Global};

@@ -14,7 +14,6 @@ ghost use Rattle.puzzle_cli.specs.InfoRuns.{InfoRun};
 ghost use Rattle.puzzle_cli.specs.ReplayRuns.{ReplayRun, TourRun};
 
 mod building;
-mod export;
 mod finest;
 mod generate;
 mod info;

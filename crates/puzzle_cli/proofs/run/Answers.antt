@@ -12,7 +12,7 @@ use Rattle.puzzle_cli.proofs.JobRuns.{same_build, same_finest, same_gen, same_in
 use Rattle.puzzle_cli.proofs.FinestRuns.{finest_unstarted}
 use Rattle.puzzle_cli.proofs.GenRuns.{gen_unstarted, gen_complete}
 use Rattle.puzzle_cli.proofs.InfoRuns.{info_unstarted, never_told, info_run}
-use Rattle.puzzle_cli.proofs.OutAnswers.{never}
+use Rattle.mesh_output.proofs.OutAnswers.{never}
 use Rattle.puzzle_cli.proofs.BuildRuns.{build_unstarted}
 use Rattle.puzzle_cli.proofs.ReplayRuns.{not_replayed, replay_unstarted}
 use Rattle.puzzle_cli.proofs.TourRuns.{tour_unstarted}

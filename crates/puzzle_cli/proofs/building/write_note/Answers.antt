@@ -1,6 +1,6 @@
 -- The note alone is written.
 use Rattle.std.proofs.Common.{◌∙◌}
-use Rattle.puzzle_cli.proofs.Exports.{one_note}
+use Rattle.mesh_output.proofs.Exports.{one_note}
 use Rattle.puzzle_cli.proofs.building.write_note.Goals as goal
 
 pub returns-in-Ok-clause-ok : goal.returns-in-Ok-clause-ok

@@ -14,7 +14,7 @@ use Rattle.puzzle_cli.specs.Plays.{asks, shows, step, view_at}
 use Rattle.cut_blocks.specs.WrongBlocks.{first_wrong}
 use Rattle.puzzle_cli.specs.Playing.{IsPlaying}
 use Rattle.cut_blocks.specs.Shown.{stored_in}
-use Rattle.puzzle_cli.proofs.Exports.{nothing}
+use Rattle.mesh_output.proofs.Exports.{nothing}
 use Rattle.cut_blocks.proofs.OpenLaw.{found_wrong, no_wrong}
 use Rattle.cut_blocks.proofs.ShownLaw.{asked_refused_at}
 use Rattle.puzzle_cli.proofs.PlayLaw.{looked_is, on_err, on_err_map, on_ok, open_kept, part_is, written_is}

@@ -2,7 +2,7 @@
 use Rattle.std.proofs.Common.{ap, refl, ◌∙◌, subst, inl, inr, Err}
 use Rattle.run_status.specs.declared.status.Status.TheVariants as status
 use Rattle.cut_blocks.specs.Shown.{AreCounted}
-use Rattle.puzzle_cli.proofs.OutAnswers.{isnt}
+use Rattle.mesh_output.proofs.OutAnswers.{isnt}
 use Rattle.puzzle_cli.proofs.Progress.{rose_later}
 use Rattle.puzzle_cli.proofs.ReplayRuns.{counted_asked, finished_run, lines_of_replay, note_of_replay, open_start, unfinished_run, unopened_run}
 use Rattle.puzzle_cli.proofs.replaying.replay.Goals as goal

@@ -1,7 +1,7 @@
 -- The note alone is written.
 use Rattle.std.proofs.Common.{◌∙◌, ap}
 use Rattle.puzzle_cli.specs.Plays.{replay_note}
-use Rattle.puzzle_cli.proofs.Exports.{one_note}
+use Rattle.mesh_output.proofs.Exports.{one_note}
 use Rattle.puzzle_cli.proofs.replaying.write_note.Goals as goal
 
 pub returns-in-Ok-clause-ok : goal.returns-in-Ok-clause-ok

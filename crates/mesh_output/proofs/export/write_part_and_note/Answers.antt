@@ -1,7 +1,7 @@
 use Rattle.cut_export.specs.Numbering.{numbered_mesh}
 use Rattle.cut_export.specs.Parts.{row_of}
-use Rattle.puzzle_cli.proofs.Exports.{part_alone, part_and_note, none_yet, whole_front}
-use Rattle.puzzle_cli.proofs.export.write_part_and_note.Goals as goal
+use Rattle.mesh_output.proofs.Exports.{part_alone, part_and_note, none_yet, whole_front}
+use Rattle.mesh_output.proofs.export.write_part_and_note.Goals as goal
 
 pub returns-in_err-write_numbered-clause-front : goal.returns-in_err-write_numbered-clause-front
 returns-in_err-write_numbered-clause-front g c = none_yet _ _ _ _ _ c.in_err-write_numbered.ensures.err c.write_numbered.ensures.notes

@@ -7,7 +7,7 @@ use Rattle.tpz_io.specs.Writes.{Item, Wrote, WrotePrefix, Note}
 use Rattle.tpz_base.specs.Meshes.{Mesh}
 use Rattle.tpz_base.specs.Cubes.{Row}
 use Rattle.tpz_base.specs.Texts.{Bytes, text}
-use Rattle.puzzle_cli.specs.Exports.{mesh_items}
+use Rattle.mesh_output.specs.Exports.{mesh_items}
 use Rattle.cut_export.proofs.Pieces.{followed_by-nil}
 
 pub nothing : (p0 p1 : Option (List Bytes)) (n0 n1 : Option Bytes) → p1 ≡ p0 → n1 ≡ n0 → Wrote [] p0 p1 n0 n1

@@ -4,7 +4,7 @@ ghost use Rattle.tpz_io.specs.Causes.{Rose};
 ghost use Rattle.tpz_io.specs.Writes.{Wrote, WrotePrefix};
 ghost use Rattle.cut_export.specs.Numbering.{numbered_mesh, IsNumbering};
 ghost use Rattle.cut_export.specs.Parts.{row_of, IsLow};
-ghost use Rattle.puzzle_cli.specs.Exports.{mesh_items};
+ghost use Rattle.mesh_output.specs.Exports.{mesh_items};
 
 use cut_export::{ExportFault, Numbered, write_numbered};
 use std::alloc::Global;
