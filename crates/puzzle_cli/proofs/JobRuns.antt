@@ -7,7 +7,7 @@ use Rattle.command_words.specs.declared.jobs.Job.TheVariants.{Finest, Build, Gen
 use Rattle.patch_file.specs.Asking.{RoseBy}
 use Rattle.run_status.specs.declared.status.Status.{Status}
 use Rattle.puzzle_cli.specs.Touches.{Devices, touched_by}
-use Rattle.puzzle_cli.specs.FinestRuns.{FinestRun}
+use Rattle.command_finest.specs.FinestRuns.{FinestRun}
 use Rattle.puzzle_cli.specs.BuildRuns.{BuildRun}
 use Rattle.puzzle_cli.specs.GenRuns.{GenRun}
 use Rattle.puzzle_cli.specs.InfoRuns.{InfoRun}

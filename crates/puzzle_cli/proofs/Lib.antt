@@ -6,7 +6,5 @@ mod PlayLaw
 mod Progress
 mod ReplayRuns
 mod TourRuns
-pub mod FinestItems
-pub mod FinestRuns
 pub mod GenRuns
 pub mod InfoRuns

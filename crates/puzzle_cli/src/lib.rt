@@ -7,20 +7,20 @@ ghost use Rattle.patch_file.specs.Asking.{RoseBy};
 ghost use Rattle.command_words.specs.Words.{asked};
 ghost use Rattle.puzzle_cli.specs.Touches.{touched_by};
 ghost use Rattle.puzzle_cli.specs.Asks.{AsksFinest, AsksBuild, AsksGen, AsksInfo, AsksReplay, AsksTour};
-ghost use Rattle.puzzle_cli.specs.FinestRuns.{FinestRun};
+ghost use Rattle.command_finest.specs.FinestRuns.{FinestRun};
 ghost use Rattle.puzzle_cli.specs.BuildRuns.{BuildRun};
 ghost use Rattle.puzzle_cli.specs.GenRuns.{GenRun};
 ghost use Rattle.puzzle_cli.specs.InfoRuns.{InfoRun};
 ghost use Rattle.puzzle_cli.specs.ReplayRuns.{ReplayRun, TourRun};
 
 mod building;
-mod finest;
 mod generate;
 mod info;
 mod replaying;
 mod touring;
 
 use building::Plan;
+use command_finest::run_finest;
 pub use command_words::{Job, WordsFault, read_words};
 pub use run_status::{InputKind, Place, ReadAt, Status};
 use std::alloc::Global;
@@ -93,7 +93,7 @@ pub fn run<I: Source, C: Source, W: Blob, S: Blob, O: Out>(
         Err(WordsFault::Memory) => return Status::Memory,
     };
     match job {
-        Job::Finest { digits, cap } => finest::finest(alloc, digits, cap, input, work, out),
+        Job::Finest { digits, cap } => run_finest(alloc, digits, cap, input, work, out),
         Job::Build {
             digits,
             cap,

@@ -9,7 +9,7 @@ use Rattle.puzzle_cli.specs.Touches.{Devices}
 use Rattle.finest_cut.proofs.RootCut.{each_once}
 use Rattle.command_words.proofs.JobRanges.{asked_digits, asked_plan, asked_replay, asked_size, asked_tour, asked_tries}
 use Rattle.puzzle_cli.proofs.JobRuns.{same_build, same_finest, same_gen, same_info, same_replay, other_job, some_or_none, touched, same_tour}
-use Rattle.puzzle_cli.proofs.FinestRuns.{finest_unstarted}
+use Rattle.command_finest.proofs.FinestRuns.{finest_unstarted}
 use Rattle.puzzle_cli.proofs.GenRuns.{gen_unstarted, gen_complete}
 use Rattle.puzzle_cli.proofs.InfoRuns.{info_unstarted, never_told, info_run}
 use Rattle.mesh_output.proofs.OutAnswers.{never}
@@ -47,8 +47,8 @@ returns-in-Err-Memory-clause-generated g c = λ n asks. gen_unstarted n _ _ _
 
 -- ---- `finest`
 
-pub finest-requires : goal.finest-requires
-finest-requires g c = asked_digits _ c.in-Finest.digits c.in-Finest.cap (c.in-Ok.ensures.ok ∙ ap Some c.in-Finest.is)
+pub run_finest-requires : goal.run_finest-requires
+run_finest-requires g c = asked_digits _ c.in-Finest.digits c.in-Finest.cap (c.in-Ok.ensures.ok ∙ ap Some c.in-Finest.is)
 
 pub returns-in-Finest-clause-same_input : goal.returns-in-Finest-clause-same_input
 returns-in-Finest-clause-same_input g c = λ isnt. absurd (touched (λ (d : Devices). d.input) _ _ (c.in-Ok.ensures.ok ∙ ap Some c.in-Finest.is) refl isnt)
@@ -66,28 +66,28 @@ pub returns-in-Finest-clause-finest : goal.returns-in-Finest-clause-finest
 returns-in-Finest-clause-finest g c = λ d k asks.
     same_finest _ c.in-Finest.digits c.in-Finest.cap d k (c.in-Ok.ensures.ok ∙ ap Some c.in-Finest.is) asks
     (record {
-      ok = c.finest.ensures.ok;
+      ok = c.run_finest.ensures.ok;
       once = λ rows faces. each_once c.in-Finest.cap (level_bound rows) (mesh_of rows faces);
-      refused = c.finest.ensures.refused;
-      accepted = c.finest.ensures.accepted;
-      few = c.finest.ensures.few;
-      too_many = c.finest.ensures.too_many;
+      refused = c.run_finest.ensures.refused;
+      accepted = c.run_finest.ensures.accepted;
+      few = c.run_finest.ensures.few;
+      too_many = c.run_finest.ensures.too_many;
       complete = λ bytes told held keeps no_input no_work no_out.
-          answered c.in-Finest.digits c.in-Finest.cap bytes c.finest.result (record {
-            usage = c.finest.ensures.asked;
-            store = c.finest.ensures.own;
-            refused = λ r. c.finest.ensures.refused r bytes told;
-            accepted = λ h. c.finest.ensures.accepted h bytes told;
-            few = λ h. c.finest.ensures.few h bytes told held keeps;
-            too_many = λ h. c.finest.ensures.too_many h bytes told held keeps;
-            input = λ e. no_input (c.finest.ensures.input_fault e);
-            work = λ e. no_work (c.finest.ensures.work_fault e);
-            damage = λ offset e. (let none = c.finest.ensures.work_damage offset e in let not_told = sym none ∙ keeps in cc);
-            out = λ e. no_out (c.finest.ensures.out_fault e);
+          answered c.in-Finest.digits c.in-Finest.cap bytes c.run_finest.result (record {
+            usage = c.run_finest.ensures.asked;
+            store = c.run_finest.ensures.own;
+            refused = λ r. c.run_finest.ensures.refused r bytes told;
+            accepted = λ h. c.run_finest.ensures.accepted h bytes told;
+            few = λ h. c.run_finest.ensures.few h bytes told held keeps;
+            too_many = λ h. c.run_finest.ensures.too_many h bytes told held keeps;
+            input = λ e. no_input (c.run_finest.ensures.input_fault e);
+            work = λ e. no_work (c.run_finest.ensures.work_fault e);
+            damage = λ offset e. (let none = c.run_finest.ensures.work_damage offset e in let not_told = sym none ∙ keeps in cc);
+            out = λ e. no_out (c.run_finest.ensures.out_fault e);
           });
-      front = c.finest.ensures.front;
-      unaccepted = c.finest.ensures.unaccepted;
-      unread = c.finest.ensures.unread;
+      front = c.run_finest.ensures.front;
+      unaccepted = c.run_finest.ensures.unaccepted;
+      unread = c.run_finest.ensures.unread;
     })
 
 pub returns-in-Finest-clause-built : goal.returns-in-Finest-clause-built

@@ -5,7 +5,7 @@ use Rattle.tpz_base.specs.Texts.{Bytes}
 use Rattle.tpz_base.specs.Cubes.{level_bound}
 use Rattle.ply_body.specs.Inputs.{mesh_of}
 use Rattle.run_status.specs.declared.status.Status.TheVariants as status
-use Rattle.puzzle_cli.specs.FinestRuns.{FinestRun}
+use Rattle.command_finest.specs.FinestRuns.{FinestRun}
 use Rattle.finest_cut.proofs.RootCut.{each_once}
 use Rattle.mesh_output.proofs.Exports.{none_yet, nothing}
 

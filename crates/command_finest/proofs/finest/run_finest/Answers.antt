@@ -4,11 +4,11 @@ use Rattle.tpz_base.specs.declared.shape.Point.{Point}
 use Rattle.diamond_graph.specs.Adding.{most_centres}
 use Rattle.run_status.specs.Statuses.{IsUnread}
 use Rattle.mesh_stream.proofs.Completing.{unread_own}
-use Rattle.puzzle_cli.proofs.FinestItems.{as_told, front_as_told, split_is}
+use Rattle.command_finest.proofs.FinestItems.{as_told, front_as_told, split_is}
 use Rattle.tri_stream.proofs.Changes.{untold_before}
 use Rattle.mesh_stream.proofs.ReadLemmas.{told_later}
 use Rattle.run_status.proofs.StreamFaults.{split_never, split_not_of_store, split_not_refused}
-use Rattle.puzzle_cli.proofs.finest.finest.Goals as goal
+use Rattle.command_finest.proofs.finest.run_finest.Goals as goal
 
 pub returns-in-Err-clause-asked : goal.returns-in-Err-clause-asked
 returns-in-Err-clause-asked g c = λ e. subst (λ s. IsUnread s) e (c.in-Err.ensures.unread c.in-Err.status refl)

@@ -11,7 +11,7 @@ use Rattle.run_status.specs.declared.status.Status.{Status}
 use Rattle.run_status.specs.declared.status.Status.TheVariants as status
 use Rattle.mesh_stream.specs.Digits.{digits_of, input_for, IsAccepted}
 use Rattle.finest_cut.specs.Cuts.{finest_mesh}
-use Rattle.puzzle_cli.specs.Finest.{finest_items}
+use Rattle.command_finest.specs.Finest.{finest_items}
 use Rattle.mesh_stream.specs.Splits.{finest_split}
 use Rattle.run_status.specs.Statuses.{status_of, IsRefused}
 

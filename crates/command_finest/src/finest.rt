@@ -8,7 +8,7 @@ ghost use Rattle.tpz_base.specs.Texts.{Face};
 ghost use Rattle.ply_body.specs.Inputs.{Refusal};
 ghost use Rattle.diamond_graph.specs.Adding.{most_centres};
 ghost use Rattle.mesh_stream.specs.Digits.{digits_of, input_for, IsAccepted};
-ghost use Rattle.puzzle_cli.specs.Finest.{finest_items, finest_note, items_of};
+ghost use Rattle.command_finest.specs.Finest.{finest_items, finest_note, items_of};
 ghost use Rattle.mesh_stream.specs.Splits.{finest_split};
 ghost use Rattle.cut_export.specs.Numbering.{numbered_mesh, IsNumbering};
 ghost use Rattle.mesh_stream.specs.Readings.{IsInputLow};
@@ -55,7 +55,7 @@ fn export<O: Out>(
 
 /// Reads an input, and writes its mesh in the order of its finest cut. Without digits those are taken that the types of the
 /// coordinates set; without a cap no diamond is split.
-pub fn finest<I: Source, W: Blob, O: Out>(
+pub fn run_finest<I: Source, W: Blob, O: Out>(
     alloc: Global,
     digits: Option<u8>,
     cap: Option<u32>,

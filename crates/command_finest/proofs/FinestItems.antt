@@ -9,7 +9,7 @@ use Rattle.tpz_base.specs.Texts.{Bytes, Face}
 use Rattle.mesh_stream.specs.declared.reading.InputMesh.{InputMesh}
 use Rattle.mesh_stream.specs.declared.reading.Facts.{Facts}
 use Rattle.cut_export.specs.declared.numbering.Numbered.{Numbered}
-use Rattle.puzzle_cli.specs.Finest.{finest_items, finest_note, items_for, items_of}
+use Rattle.command_finest.specs.Finest.{finest_items, finest_note, items_for, items_of}
 use Rattle.mesh_stream.specs.Splits.{finest_split, split_for}
 use Rattle.finest_cut.specs.Cuts.{mesh_for}
 use Rattle.mesh_stream.specs.Readings.{IsMeshOf}

@@ -1,6 +1,6 @@
 use Rattle.std.proofs.Common.{◌∙◌}
-use Rattle.puzzle_cli.proofs.FinestItems.{finest_items_are}
-use Rattle.puzzle_cli.proofs.finest.export.Goals as goal
+use Rattle.command_finest.proofs.FinestItems.{finest_items_are}
+use Rattle.command_finest.proofs.finest.export.Goals as goal
 
 pub returns-clause-ok : goal.returns-clause-ok
 returns-clause-ok g c =
