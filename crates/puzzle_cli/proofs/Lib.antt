@@ -6,5 +6,4 @@ mod PlayLaw
 mod Progress
 mod ReplayRuns
 mod TourRuns
-pub mod GenRuns
 pub mod InfoRuns

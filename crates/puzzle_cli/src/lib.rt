@@ -9,18 +9,18 @@ ghost use Rattle.puzzle_cli.specs.Touches.{touched_by};
 ghost use Rattle.puzzle_cli.specs.Asks.{AsksFinest, AsksBuild, AsksGen, AsksInfo, AsksReplay, AsksTour};
 ghost use Rattle.command_finest.specs.FinestRuns.{FinestRun};
 ghost use Rattle.puzzle_cli.specs.BuildRuns.{BuildRun};
-ghost use Rattle.puzzle_cli.specs.GenRuns.{GenRun};
+ghost use Rattle.command_gen.specs.GenRuns.{GenRun};
 ghost use Rattle.puzzle_cli.specs.InfoRuns.{InfoRun};
 ghost use Rattle.puzzle_cli.specs.ReplayRuns.{ReplayRun, TourRun};
 
 mod building;
-mod generate;
 mod info;
 mod replaying;
 mod touring;
 
 use building::Plan;
 use command_finest::run_finest;
+use command_gen::run_gen;
 pub use command_words::{Job, WordsFault, read_words};
 pub use run_status::{InputKind, Place, ReadAt, Status};
 use std::alloc::Global;
@@ -110,7 +110,7 @@ pub fn run<I: Source, C: Source, W: Blob, S: Blob, O: Out>(
             store,
             out,
         ),
-        Job::Gen { size } => generate::generate(alloc, size, out),
+        Job::Gen { size } => run_gen(alloc, size, out),
         Job::Info { tries } => info::info(alloc, tries, store, out),
         Job::Replay { tries } => replaying::replay(alloc, tries, script, store, out),
         Job::Tour {

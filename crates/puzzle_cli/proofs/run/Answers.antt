@@ -10,7 +10,7 @@ use Rattle.finest_cut.proofs.RootCut.{each_once}
 use Rattle.command_words.proofs.JobRanges.{asked_digits, asked_plan, asked_replay, asked_size, asked_tour, asked_tries}
 use Rattle.puzzle_cli.proofs.JobRuns.{same_build, same_finest, same_gen, same_info, same_replay, other_job, some_or_none, touched, same_tour}
 use Rattle.command_finest.proofs.FinestRuns.{finest_unstarted}
-use Rattle.puzzle_cli.proofs.GenRuns.{gen_unstarted, gen_complete}
+use Rattle.command_gen.proofs.GenRuns.{gen_unstarted, gen_complete}
 use Rattle.puzzle_cli.proofs.InfoRuns.{info_unstarted, never_told, info_run}
 use Rattle.mesh_output.proofs.OutAnswers.{never}
 use Rattle.puzzle_cli.proofs.BuildRuns.{build_unstarted}
@@ -145,11 +145,11 @@ returns-in-Build-clause-told g c = λ n asks. absurd (other_job _ (Build c.in-Bu
 
 -- ---- `gen`
 
-pub generate-requires : goal.generate-requires
-generate-requires g c = asked_size _ c.in-Gen.size (c.in-Ok.ensures.ok ∙ ap Some c.in-Gen.is)
+pub run_gen-requires : goal.run_gen-requires
+run_gen-requires g c = asked_size _ c.in-Gen.size (c.in-Ok.ensures.ok ∙ ap Some c.in-Gen.is)
 
 pub returns-in-Gen-clause-usage : goal.returns-in-Gen-clause-usage
-returns-in-Gen-clause-usage g c = λ e. absurd (never _ _ c.generate.ensures.status (λ e. cc) (λ e. cc) (λ e. cc) e)
+returns-in-Gen-clause-usage g c = λ e. absurd (never _ _ c.run_gen.ensures.status (λ e. cc) (λ e. cc) (λ e. cc) e)
 
 pub returns-in-Gen-clause-asked : goal.returns-in-Gen-clause-asked
 returns-in-Gen-clause-asked g c = λ none. absurd (some_or_none _ _ c.in-Ok.ensures.ok none)
@@ -158,13 +158,13 @@ pub returns-in-Gen-clause-same_out : goal.returns-in-Gen-clause-same_out
 returns-in-Gen-clause-same_out g c = λ isnt. absurd (touched (λ (d : Devices). d.out) _ _ (c.in-Ok.ensures.ok ∙ ap Some c.in-Gen.is) refl isnt)
 
 pub returns-in-Gen-clause-input_fault : goal.returns-in-Gen-clause-input_fault
-returns-in-Gen-clause-input_fault g c = λ e. absurd (never _ _ c.generate.ensures.status (λ e. cc) (λ e. cc) (λ e. cc) e)
+returns-in-Gen-clause-input_fault g c = λ e. absurd (never _ _ c.run_gen.ensures.status (λ e. cc) (λ e. cc) (λ e. cc) e)
 
 pub returns-in-Gen-clause-work_fault : goal.returns-in-Gen-clause-work_fault
-returns-in-Gen-clause-work_fault g c = λ e. absurd (never _ _ c.generate.ensures.status (λ e. cc) (λ e. cc) (λ e. cc) e)
+returns-in-Gen-clause-work_fault g c = λ e. absurd (never _ _ c.run_gen.ensures.status (λ e. cc) (λ e. cc) (λ e. cc) e)
 
 pub returns-in-Gen-clause-work_damage : goal.returns-in-Gen-clause-work_damage
-returns-in-Gen-clause-work_damage g c = λ offset e. absurd (never _ _ c.generate.ensures.status (λ e. cc) (λ e. cc) (λ e. cc) e)
+returns-in-Gen-clause-work_damage g c = λ offset e. absurd (never _ _ c.run_gen.ensures.status (λ e. cc) (λ e. cc) (λ e. cc) e)
 
 pub returns-in-Gen-clause-finest : goal.returns-in-Gen-clause-finest
 returns-in-Gen-clause-finest g c = λ d k asks. absurd (other_job _ (Gen c.in-Gen.size) (Finest d k) (c.in-Ok.ensures.ok ∙ ap Some c.in-Gen.is) asks (λ e. cc))
@@ -176,10 +176,10 @@ pub returns-in-Gen-clause-generated : goal.returns-in-Gen-clause-generated
 returns-in-Gen-clause-generated g c = λ n asks.
     same_gen _ c.in-Gen.size n (c.in-Ok.ensures.ok ∙ ap Some c.in-Gen.is) asks
     (record {
-      ok = c.generate.ensures.ok;
-      closed = c.generate.ensures.closed;
-      complete = gen_complete _ _ c.generate.ensures.status c.generate.ensures.out_fault;
-      front = c.generate.ensures.front;
+      ok = c.run_gen.ensures.ok;
+      closed = c.run_gen.ensures.closed;
+      complete = gen_complete _ _ c.run_gen.ensures.status c.run_gen.ensures.out_fault;
+      front = c.run_gen.ensures.front;
     })
 
 pub returns-in-Gen-clause-told : goal.returns-in-Gen-clause-told

@@ -1,5 +1,5 @@
 use Rattle.mesh_gen.proofs.Sums.{generated_closed}
-use Rattle.puzzle_cli.proofs.generate.generate.Goals as goal
+use Rattle.command_gen.proofs.generate.run_gen.Goals as goal
 
 pub returns-in-Ok-clause-closed : goal.returns-in-Ok-clause-closed
 returns-in-Ok-clause-closed g c = generated_closed c.args.size

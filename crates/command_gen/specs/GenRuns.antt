@@ -7,7 +7,7 @@ use Rattle.tpz_base.specs.Texts.{Bytes}
 use Rattle.mesh_gen.specs.Generator.{generated}
 use Rattle.run_status.specs.declared.status.Status.{Status}
 use Rattle.run_status.specs.declared.status.Status.TheVariants as status
-use Rattle.puzzle_cli.specs.Gen.{gen_items}
+use Rattle.command_gen.specs.Gen.{gen_items}
 
 -- a run of `gen`
 pub record GenRun (size : ℕ) (out_failed : Type 0) (p0 p1 : Option (List Bytes)) (n0 n1 : Option Bytes) (answer : Status) : Type 0 where

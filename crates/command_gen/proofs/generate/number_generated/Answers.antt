@@ -4,7 +4,7 @@ use Rattle.std.proofs.lemmas.List.{take_more}
 use Rattle.std.proofs.lemmas.Option.{get_or_from_slice_get, slice_get_within}
 use Rattle.tpz_base.specs.declared.shape.Tri.{Tri}
 use Rattle.mesh_gen.specs.Generator.{generated}
-use Rattle.puzzle_cli.proofs.generate.number_generated.Goals as goal
+use Rattle.command_gen.proofs.generate.number_generated.Goals as goal
 
 pub tris-preserved : goal.tris-preserved
 tris-preserved c =

@@ -5,7 +5,7 @@ ghost use Rattle.tpz_io.specs.Writes.{Wrote, WrotePrefix};
 ghost use Rattle.tpz_base.specs.declared.shape.Point.{Point};
 ghost use Rattle.tpz_base.specs.Meshes.{edge_sum};
 ghost use Rattle.mesh_gen.specs.Generator.{generated, IsSize};
-ghost use Rattle.puzzle_cli.specs.Gen.{gen_items, gen_note};
+ghost use Rattle.command_gen.specs.Gen.{gen_items, gen_note};
 ghost use Rattle.cut_export.specs.Numbering.{numbered_mesh, IsNumbering};
 
 use cut_export::{ExportFault, Numbered};
@@ -50,7 +50,7 @@ fn export<O: Out>(alloc: Global, size: u32, out: &mut O) -> Result<(), ExportFau
 }
 
 /// Writes the generated mesh of this size.
-pub fn generate<O: Out>(alloc: Global, size: u32, out: &mut O) -> Status
+pub fn run_gen<O: Out>(alloc: Global, size: u32, out: &mut O) -> Status
     requires { IsSize size }
     ensures status { (result ≡ Status.Ok) ⊎ ((result ≡ Status.OutFault) ⊎ (result ≡ Status.Memory)) }
     ensures ok { result ≡ Status.Ok → Wrote (gen_items size) (O.parts out.old) (O.parts out.new) (O.notes out.old) (O.notes out.new) }

@@ -1,7 +1,7 @@
 use Rattle.std.proofs.Common.{◌≡◌, take}
 use Rattle.mesh_gen.specs.Generator.{generated}
 use Rattle.cut_export.specs.Numbering.{numbered_mesh, IsNumbering}
-use Rattle.puzzle_cli.proofs.generate.number_generated.Given as goal
+use Rattle.command_gen.proofs.generate.number_generated.Given as goal
 
 abbrev pub invariant-tris : goal.invariant-tris
 invariant-tris l = record {

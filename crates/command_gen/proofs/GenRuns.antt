@@ -5,8 +5,8 @@ use Rattle.tpz_base.specs.Texts.{Bytes}
 use Rattle.mesh_gen.proofs.Sums.{generated_closed}
 use Rattle.run_status.specs.declared.status.Status.{Status}
 use Rattle.run_status.specs.declared.status.Status.TheVariants as status
-use Rattle.puzzle_cli.specs.Gen.{gen_items}
-use Rattle.puzzle_cli.specs.GenRuns.{GenRun}
+use Rattle.command_gen.specs.Gen.{gen_items}
+use Rattle.command_gen.specs.GenRuns.{GenRun}
 use Rattle.mesh_output.proofs.Exports.{none_yet}
 use Rattle.mesh_output.proofs.OutAnswers.{IsGenAnswer}
 
