@@ -10,7 +10,7 @@ use Rattle.puzzle_cli.specs.Touches.{Devices, touched_by}
 use Rattle.command_finest.specs.FinestRuns.{FinestRun}
 use Rattle.puzzle_cli.specs.BuildRuns.{BuildRun}
 use Rattle.command_gen.specs.GenRuns.{GenRun}
-use Rattle.puzzle_cli.specs.InfoRuns.{InfoRun}
+use Rattle.command_info.specs.InfoRuns.{InfoRun}
 use Rattle.puzzle_cli.specs.ReplayRuns.{ReplayRun, TourRun}
 use Rattle.command_words.proofs.JobRanges.{one_job}
 

@@ -1,9 +1,7 @@
 pub mod JobRuns
 pub mod BuildRuns
 pub mod BuildSteps
-pub mod InfoLemmas
 mod PlayLaw
 mod Progress
 mod ReplayRuns
 mod TourRuns
-pub mod InfoRuns

@@ -10,17 +10,17 @@ ghost use Rattle.puzzle_cli.specs.Asks.{AsksFinest, AsksBuild, AsksGen, AsksInfo
 ghost use Rattle.command_finest.specs.FinestRuns.{FinestRun};
 ghost use Rattle.puzzle_cli.specs.BuildRuns.{BuildRun};
 ghost use Rattle.command_gen.specs.GenRuns.{GenRun};
-ghost use Rattle.puzzle_cli.specs.InfoRuns.{InfoRun};
+ghost use Rattle.command_info.specs.InfoRuns.{InfoRun};
 ghost use Rattle.puzzle_cli.specs.ReplayRuns.{ReplayRun, TourRun};
 
 mod building;
-mod info;
 mod replaying;
 mod touring;
 
 use building::Plan;
 use command_finest::run_finest;
 use command_gen::run_gen;
+use command_info::run_info;
 pub use command_words::{Job, WordsFault, read_words};
 pub use run_status::{InputKind, Place, ReadAt, Status};
 use std::alloc::Global;
@@ -111,7 +111,7 @@ pub fn run<I: Source, C: Source, W: Blob, S: Blob, O: Out>(
             out,
         ),
         Job::Gen { size } => run_gen(alloc, size, out),
-        Job::Info { tries } => info::info(alloc, tries, store, out),
+        Job::Info { tries } => run_info(alloc, tries, store, out),
         Job::Replay { tries } => replaying::replay(alloc, tries, script, store, out),
         Job::Tour {
             digits,

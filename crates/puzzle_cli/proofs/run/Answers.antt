@@ -11,7 +11,7 @@ use Rattle.command_words.proofs.JobRanges.{asked_digits, asked_plan, asked_repla
 use Rattle.puzzle_cli.proofs.JobRuns.{same_build, same_finest, same_gen, same_info, same_replay, other_job, some_or_none, touched, same_tour}
 use Rattle.command_finest.proofs.FinestRuns.{finest_unstarted}
 use Rattle.command_gen.proofs.GenRuns.{gen_unstarted, gen_complete}
-use Rattle.puzzle_cli.proofs.InfoRuns.{info_unstarted, never_told, info_run}
+use Rattle.command_info.proofs.InfoRuns.{info_unstarted, never_told, info_run}
 use Rattle.mesh_output.proofs.OutAnswers.{never}
 use Rattle.puzzle_cli.proofs.BuildRuns.{build_unstarted}
 use Rattle.puzzle_cli.proofs.ReplayRuns.{not_replayed, replay_unstarted}
@@ -187,14 +187,14 @@ returns-in-Gen-clause-told g c = λ n asks. absurd (other_job _ (Info n) (Gen c.
 
 -- ---- `info`
 
-pub info-requires-clause-some : goal.info-requires-clause-some
-info-requires-clause-some g c = (asked_tries _ c.in-Info.tries (c.in-Ok.ensures.ok ∙ ap Some c.in-Info.is)).0
+pub run_info-requires-clause-some : goal.run_info-requires-clause-some
+run_info-requires-clause-some g c = (asked_tries _ c.in-Info.tries (c.in-Ok.ensures.ok ∙ ap Some c.in-Info.is)).0
 
-pub info-requires-clause-few : goal.info-requires-clause-few
-info-requires-clause-few g c = (asked_tries _ c.in-Info.tries (c.in-Ok.ensures.ok ∙ ap Some c.in-Info.is)).1
+pub run_info-requires-clause-few : goal.run_info-requires-clause-few
+run_info-requires-clause-few g c = (asked_tries _ c.in-Info.tries (c.in-Ok.ensures.ok ∙ ap Some c.in-Info.is)).1
 
 pub returns-in-Info-clause-usage : goal.returns-in-Info-clause-usage
-returns-in-Info-clause-usage g c = λ e. absurd (never_told _ _ c.info.ensures.status (λ e. cc) (λ e. cc) (λ e. cc) (λ e. cc) (λ b e. cc) e)
+returns-in-Info-clause-usage g c = λ e. absurd (never_told _ _ c.run_info.ensures.status (λ e. cc) (λ e. cc) (λ e. cc) (λ e. cc) (λ b e. cc) e)
 
 pub returns-in-Info-clause-asked : goal.returns-in-Info-clause-asked
 returns-in-Info-clause-asked g c = λ none. absurd (some_or_none _ _ c.in-Ok.ensures.ok none)
@@ -206,13 +206,13 @@ pub returns-in-Info-clause-same_out : goal.returns-in-Info-clause-same_out
 returns-in-Info-clause-same_out g c = λ isnt. absurd (touched (λ (d : Devices). d.out) _ _ (c.in-Ok.ensures.ok ∙ ap Some c.in-Info.is) refl isnt)
 
 pub returns-in-Info-clause-input_fault : goal.returns-in-Info-clause-input_fault
-returns-in-Info-clause-input_fault g c = λ e. absurd (never_told _ _ c.info.ensures.status (λ e. cc) (λ e. cc) (λ e. cc) (λ e. cc) (λ b e. cc) e)
+returns-in-Info-clause-input_fault g c = λ e. absurd (never_told _ _ c.run_info.ensures.status (λ e. cc) (λ e. cc) (λ e. cc) (λ e. cc) (λ b e. cc) e)
 
 pub returns-in-Info-clause-work_fault : goal.returns-in-Info-clause-work_fault
-returns-in-Info-clause-work_fault g c = λ e. absurd (never_told _ _ c.info.ensures.status (λ e. cc) (λ e. cc) (λ e. cc) (λ e. cc) (λ b e. cc) e)
+returns-in-Info-clause-work_fault g c = λ e. absurd (never_told _ _ c.run_info.ensures.status (λ e. cc) (λ e. cc) (λ e. cc) (λ e. cc) (λ b e. cc) e)
 
 pub returns-in-Info-clause-work_damage : goal.returns-in-Info-clause-work_damage
-returns-in-Info-clause-work_damage g c = λ offset e. absurd (never_told _ _ c.info.ensures.status (λ e. cc) (λ e. cc) (λ e. cc) (λ e. cc) (λ b e. cc) e)
+returns-in-Info-clause-work_damage g c = λ offset e. absurd (never_told _ _ c.run_info.ensures.status (λ e. cc) (λ e. cc) (λ e. cc) (λ e. cc) (λ b e. cc) e)
 
 pub returns-in-Info-clause-finest : goal.returns-in-Info-clause-finest
 returns-in-Info-clause-finest g c = λ d k asks. absurd (other_job _ (Info c.in-Info.tries) (Finest d k) (c.in-Ok.ensures.ok ∙ ap Some c.in-Info.is) asks (λ e. cc))
@@ -225,9 +225,9 @@ returns-in-Info-clause-generated g c = λ n asks. absurd (other_job _ (Info c.in
 
 pub returns-in-Info-clause-told : goal.returns-in-Info-clause-told
 returns-in-Info-clause-told g c = λ n asks.
-    same_info (g.S.Blob.faults c.args.store.now) (g.S.Blob.faults c.info.new.store) _ c.in-Info.tries n (c.in-Ok.ensures.ok ∙ ap Some c.in-Info.is) asks
-    (info_run c.in-Info.tries _ _ _ _ _ _ _ _ c.info.result c.info.ensures.status c.info.ensures.ok c.info.ensures.accepted c.info.ensures.refused c.info.ensures.fault c.info.ensures.spent
-    c.info.ensures.out_fault c.info.ensures.written _ c.info.ensures.held)
+    same_info (g.S.Blob.faults c.args.store.now) (g.S.Blob.faults c.run_info.new.store) _ c.in-Info.tries n (c.in-Ok.ensures.ok ∙ ap Some c.in-Info.is) asks
+    (info_run c.in-Info.tries _ _ _ _ _ _ _ _ c.run_info.result c.run_info.ensures.status c.run_info.ensures.ok c.run_info.ensures.accepted c.run_info.ensures.refused c.run_info.ensures.fault c.run_info.ensures.spent
+    c.run_info.ensures.out_fault c.run_info.ensures.written _ c.run_info.ensures.held)
 
 -- ---- `replay`
 

@@ -10,7 +10,7 @@ ghost use Rattle.patch_file.specs.Stores.{read};
 ghost use Rattle.patch_file.specs.Tables.{Table};
 ghost use Rattle.run_status.specs.declared.status.ReadAt.{ReadAt};
 ghost use Rattle.run_status.specs.declared.status.Status.{Status};
-ghost use Rattle.puzzle_cli.specs.Info.{info_items, info_note, input_text, store_text};
+ghost use Rattle.command_info.specs.Info.{info_items, info_note, input_text, store_text};
 
 use patch_file::{Params, StoreReader};
 use run_status::{Status, status_of_open};
@@ -69,7 +69,7 @@ fn write_note<O: Out>(alloc: Global, reader: &StoreReader, out: &mut O) -> Resul
 }
 
 /// Opens the store, each call of it tried so often, and writes what its header says.
-pub fn info<S: Blob, O: Out>(alloc: Global, tries: u32, store: &mut S, out: &mut O) -> Status
+pub fn run_info<S: Blob, O: Out>(alloc: Global, tries: u32, store: &mut S, out: &mut O) -> Status
     requires some { 1 ≤ tries }
     requires few { tries ≤ 100 }
     ensures status { (result ≡ Status.Ok) ⊎ ((result ≡ Status.OutFault) ⊎ ((result ≡ Status.Memory) ⊎ ((result ≡ Status.ReadFault ReadAt.Head) ⊎ ((bad : StoreBad) × (result ≡ Status.BadStore bad))))) }

@@ -1,7 +1,7 @@
 -- The note alone is written.
 use Rattle.std.proofs.Common.{◌∙◌}
-use Rattle.puzzle_cli.proofs.InfoLemmas.{note_written}
-use Rattle.puzzle_cli.proofs.info.write_note.Goals as goal
+use Rattle.command_info.proofs.InfoLemmas.{note_written}
+use Rattle.command_info.proofs.info.write_note.Goals as goal
 
 pub returns-in-Ok-clause-ok : goal.returns-in-Ok-clause-ok
 returns-in-Ok-clause-ok g c =

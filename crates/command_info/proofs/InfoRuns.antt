@@ -8,11 +8,11 @@ use Rattle.patch_file.specs.declared.shape.StoreBad.{StoreBad}
 use Rattle.patch_file.specs.Tables.{Table}
 use Rattle.patch_file.specs.Stores.{read}
 use Rattle.tpz_io.specs.Writes.{Wrote, WrotePrefix}
-use Rattle.puzzle_cli.specs.Info.{info_items}
+use Rattle.command_info.specs.Info.{info_items}
 use Rattle.run_status.specs.declared.status.ReadAt.TheVariants as read_at
 use Rattle.run_status.specs.declared.status.Status.{Status}
 use Rattle.run_status.specs.declared.status.Status.TheVariants as status
-use Rattle.puzzle_cli.specs.InfoRuns.{InfoRun}
+use Rattle.command_info.specs.InfoRuns.{InfoRun}
 use Rattle.mesh_output.proofs.Exports.{none_yet, nothing}
 
 pub info_unstarted : (tries : ℕ) (held : Option Bytes) (outcomes : Option (List Bool)) (read_failed out_failed : Type 0) (p : Option (List Bytes)) (n : Option Bytes)

@@ -10,7 +10,7 @@ use Rattle.patch_file.specs.declared.shape.Params.{Params}
 use Rattle.patch_file.specs.Tables.{Table}
 use Rattle.patch_file.specs.Stores.{read, numbers, table_of, record_at, read_block}
 use Rattle.patch_file.specs.Reading.{ReaderState, place_in, IsOpened}
-use Rattle.puzzle_cli.specs.Info.{info_items, info_note}
+use Rattle.command_info.specs.Info.{info_items, info_note}
 use Rattle.cut_export.proofs.Pieces.{followed_by-nil}
 
 some_bytes : (a b : Bytes) → Some a ≡ Some b → a ≡ b

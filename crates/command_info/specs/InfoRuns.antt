@@ -10,7 +10,7 @@ use Rattle.patch_file.specs.Stores.{read}
 use Rattle.run_status.specs.declared.status.Status.{Status}
 use Rattle.run_status.specs.declared.status.Status.TheVariants as status
 use Rattle.run_status.specs.declared.status.ReadAt.TheVariants as read_at
-use Rattle.puzzle_cli.specs.Info.{info_items}
+use Rattle.command_info.specs.Info.{info_items}
 
 -- a run of `info`, by what the store tells before and after it, whether the store's count of failures rose by the tries, and the store's outcomes after it
 pub record InfoRun (tries : ℕ) (held held' : Option Bytes) (outcomes : Option (List Bool)) (read_failed out_failed : Type 0) (p0 p1 : Option (List Bytes)) (n0 n1 : Option Bytes) (answer : Status) : Type 0 where

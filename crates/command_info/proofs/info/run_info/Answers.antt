@@ -1,10 +1,10 @@
 -- A store that is opened has its note.
 use Rattle.std.proofs.Common.{refl, sym, ◌∙◌, ap, subst, inl, inr, Err}
 use Rattle.tpz_io.specs.Writes.{Wrote}
-use Rattle.puzzle_cli.proofs.InfoLemmas.{opened_items}
+use Rattle.command_info.proofs.InfoLemmas.{opened_items}
 use Rattle.cut_blocks.proofs.Opening.{ends_failed, refused_by_open, failed_by_open, spent_is}
 use Rattle.mesh_output.proofs.OutAnswers.{isnt}
-use Rattle.puzzle_cli.proofs.info.info.Goals as goal
+use Rattle.command_info.proofs.info.run_info.Goals as goal
 
 pub returns-in-Err-clause-refused : goal.returns-in-Err-clause-refused
 returns-in-Err-clause-refused g c = λ bad is bytes told.
