@@ -8,7 +8,7 @@ use Rattle.patch_file.specs.Asking.{RoseBy}
 use Rattle.run_status.specs.declared.status.Status.{Status}
 use Rattle.puzzle_cli.specs.Touches.{Devices, touched_by}
 use Rattle.command_finest.specs.FinestRuns.{FinestRun}
-use Rattle.puzzle_cli.specs.BuildRuns.{BuildRun}
+use Rattle.command_build.specs.BuildRuns.{BuildRun}
 use Rattle.command_gen.specs.GenRuns.{GenRun}
 use Rattle.command_info.specs.InfoRuns.{InfoRun}
 use Rattle.puzzle_cli.specs.ReplayRuns.{ReplayRun, TourRun}

@@ -9,7 +9,7 @@ use Rattle.ply_body.specs.Inputs.{Refusal, InHead, InBody, mesh_of}
 use Rattle.diamond_graph.specs.Adding.{most_centres}
 use Rattle.patch_file.specs.declared.shape.StoreBad.{StoreBad}
 use Rattle.build_pass.specs.Building.{table}
-use Rattle.puzzle_cli.specs.Build.{params_of}
+use Rattle.command_build.specs.Build.{params_of}
 use Rattle.mesh_stream.specs.Digits.{digits_of, input_for}
 use Rattle.mesh_stream.specs.Splits.{finest_split}
 use Rattle.cut_blocks.specs.WrongBlocks.{Stored}
@@ -23,9 +23,9 @@ use Rattle.tpz_base.specs.Texts.{Bytes, Face}
 use Rattle.patch_file.specs.Asking.{RoseBy}
 use Rattle.run_status.specs.declared.status.Status.{Status}
 use Rattle.run_status.specs.declared.status.Status.TheVariants as status
-use Rattle.puzzle_cli.specs.BuildRuns.{BuildRun}
+use Rattle.command_build.specs.BuildRuns.{BuildRun}
 use Rattle.puzzle_cli.specs.ReplayRuns.{ReplayRun, TourRun}
-use Rattle.puzzle_cli.proofs.BuildRuns.{build_unstarted}
+use Rattle.command_build.proofs.BuildRuns.{build_unstarted}
 use Rattle.mesh_output.proofs.Exports.{nothing}
 
 -- a build that is Ok, whatever wasn't touched

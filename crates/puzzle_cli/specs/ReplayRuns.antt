@@ -26,9 +26,9 @@ use Rattle.run_status.specs.declared.status.Status.TheVariants as status
 use Rattle.run_status.specs.declared.status.ReadAt.TheVariants as read_at
 use Rattle.mesh_stream.specs.Digits.{digits_of, input_for}
 use Rattle.mesh_stream.specs.Splits.{finest_split}
-use Rattle.puzzle_cli.specs.Build.{params_of}
+use Rattle.command_build.specs.Build.{params_of}
 use Rattle.run_status.specs.Statuses.{status_of}
-use Rattle.puzzle_cli.specs.BuildRuns.{BuildRun}
+use Rattle.command_build.specs.BuildRuns.{BuildRun}
 
 -- what a replay that came to its end wrote, and how often it asked the store, its opening included
 pub record HasReplayed (out : Stored) (text : Bytes) (reads reads' : ℕ) (p0 p1 : Option (List Bytes)) (n0 n1 : Option Bytes) : Type 0 where

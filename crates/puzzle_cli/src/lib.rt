@@ -8,16 +8,15 @@ ghost use Rattle.command_words.specs.Words.{asked};
 ghost use Rattle.puzzle_cli.specs.Touches.{touched_by};
 ghost use Rattle.puzzle_cli.specs.Asks.{AsksFinest, AsksBuild, AsksGen, AsksInfo, AsksReplay, AsksTour};
 ghost use Rattle.command_finest.specs.FinestRuns.{FinestRun};
-ghost use Rattle.puzzle_cli.specs.BuildRuns.{BuildRun};
+ghost use Rattle.command_build.specs.BuildRuns.{BuildRun};
 ghost use Rattle.command_gen.specs.GenRuns.{GenRun};
 ghost use Rattle.command_info.specs.InfoRuns.{InfoRun};
 ghost use Rattle.puzzle_cli.specs.ReplayRuns.{ReplayRun, TourRun};
 
-mod building;
 mod replaying;
 mod touring;
 
-use building::Plan;
+use command_build::{Plan, run_build};
 use command_finest::run_finest;
 use command_gen::run_gen;
 use command_info::run_info;
@@ -98,7 +97,7 @@ pub fn run<I: Source, C: Source, W: Blob, S: Blob, O: Out>(
             digits,
             cap,
             budget,
-        } => building::build_input(
+        } => run_build(
             alloc,
             Plan {
                 digits,

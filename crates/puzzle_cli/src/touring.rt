@@ -4,8 +4,8 @@ ghost use Rattle.tpz_io.specs.Causes.{Rose};
 ghost use Rattle.run_status.specs.declared.status.Status.{Status};
 ghost use Rattle.puzzle_cli.specs.ReplayRuns.{TourRun};
 
-use crate::building::{Plan, build_input};
 use crate::replaying::replay;
+use command_build::{Plan, run_build};
 use run_status::Status;
 use std::alloc::Global;
 use tpz_io::{Blob, Out, Source};
@@ -46,7 +46,7 @@ pub fn tour<I: Source, C: Source, W: Blob, S: Blob, O: Out>(
     ensures store_later { S.faults store.old ≤ S.faults store.new }
     ensures out_later { O.faults out.old ≤ O.faults out.new }
 {
-    match build_input(alloc, plan, input, work, store, out) {
+    match run_build(alloc, plan, input, work, store, out) {
         Status::Ok => replay(alloc, tries, script, store, out),
         status => status,
     }

@@ -13,7 +13,7 @@ use Rattle.command_finest.proofs.FinestRuns.{finest_unstarted}
 use Rattle.command_gen.proofs.GenRuns.{gen_unstarted, gen_complete}
 use Rattle.command_info.proofs.InfoRuns.{info_unstarted, never_told, info_run}
 use Rattle.mesh_output.proofs.OutAnswers.{never}
-use Rattle.puzzle_cli.proofs.BuildRuns.{build_unstarted}
+use Rattle.command_build.proofs.BuildRuns.{build_unstarted}
 use Rattle.puzzle_cli.proofs.ReplayRuns.{not_replayed, replay_unstarted}
 use Rattle.puzzle_cli.proofs.TourRuns.{tour_unstarted}
 use Rattle.mesh_stream.proofs.Completing.{answered}
@@ -101,20 +101,20 @@ returns-in-Finest-clause-told g c = λ n asks. absurd (other_job _ (Info n) (Fin
 
 -- ---- `build`
 
-pub build_input-requires-clause-digits : goal.build_input-requires-clause-digits
-build_input-requires-clause-digits g c = (asked_plan _ c.in-Build.digits c.in-Build.cap c.in-Build.budget (c.in-Ok.ensures.ok ∙ ap Some c.in-Build.is)).0
+pub run_build-requires-clause-digits : goal.run_build-requires-clause-digits
+run_build-requires-clause-digits g c = (asked_plan _ c.in-Build.digits c.in-Build.cap c.in-Build.budget (c.in-Ok.ensures.ok ∙ ap Some c.in-Build.is)).0
 
-pub build_input-requires-clause-some_cap : goal.build_input-requires-clause-some_cap
-build_input-requires-clause-some_cap g c = (asked_plan _ c.in-Build.digits c.in-Build.cap c.in-Build.budget (c.in-Ok.ensures.ok ∙ ap Some c.in-Build.is)).1
+pub run_build-requires-clause-some_cap : goal.run_build-requires-clause-some_cap
+run_build-requires-clause-some_cap g c = (asked_plan _ c.in-Build.digits c.in-Build.cap c.in-Build.budget (c.in-Ok.ensures.ok ∙ ap Some c.in-Build.is)).1
 
-pub build_input-requires-clause-most_cap : goal.build_input-requires-clause-most_cap
-build_input-requires-clause-most_cap g c = (asked_plan _ c.in-Build.digits c.in-Build.cap c.in-Build.budget (c.in-Ok.ensures.ok ∙ ap Some c.in-Build.is)).2
+pub run_build-requires-clause-most_cap : goal.run_build-requires-clause-most_cap
+run_build-requires-clause-most_cap g c = (asked_plan _ c.in-Build.digits c.in-Build.cap c.in-Build.budget (c.in-Ok.ensures.ok ∙ ap Some c.in-Build.is)).2
 
-pub build_input-requires-clause-some : goal.build_input-requires-clause-some
-build_input-requires-clause-some g c = (asked_plan _ c.in-Build.digits c.in-Build.cap c.in-Build.budget (c.in-Ok.ensures.ok ∙ ap Some c.in-Build.is)).3
+pub run_build-requires-clause-some : goal.run_build-requires-clause-some
+run_build-requires-clause-some g c = (asked_plan _ c.in-Build.digits c.in-Build.cap c.in-Build.budget (c.in-Ok.ensures.ok ∙ ap Some c.in-Build.is)).3
 
-pub build_input-requires-clause-most : goal.build_input-requires-clause-most
-build_input-requires-clause-most g c = (asked_plan _ c.in-Build.digits c.in-Build.cap c.in-Build.budget (c.in-Ok.ensures.ok ∙ ap Some c.in-Build.is)).4
+pub run_build-requires-clause-most : goal.run_build-requires-clause-most
+run_build-requires-clause-most g c = (asked_plan _ c.in-Build.digits c.in-Build.cap c.in-Build.budget (c.in-Ok.ensures.ok ∙ ap Some c.in-Build.is)).4
 
 pub returns-in-Build-clause-same_input : goal.returns-in-Build-clause-same_input
 returns-in-Build-clause-same_input g c = λ isnt. absurd (touched (λ (d : Devices). d.input) _ _ (c.in-Ok.ensures.ok ∙ ap Some c.in-Build.is) refl isnt)
@@ -135,7 +135,7 @@ pub returns-in-Build-clause-finest : goal.returns-in-Build-clause-finest
 returns-in-Build-clause-finest g c = λ d k asks. absurd (other_job _ (Build c.in-Build.digits c.in-Build.cap c.in-Build.budget) (Finest d k) (c.in-Ok.ensures.ok ∙ ap Some c.in-Build.is) asks (λ e. cc))
 
 pub returns-in-Build-clause-built : goal.returns-in-Build-clause-built
-returns-in-Build-clause-built g c = λ d k n asks. same_build _ c.in-Build.digits c.in-Build.cap c.in-Build.budget d k n (c.in-Ok.ensures.ok ∙ ap Some c.in-Build.is) asks c.build_input.ensures.run
+returns-in-Build-clause-built g c = λ d k n asks. same_build _ c.in-Build.digits c.in-Build.cap c.in-Build.budget d k n (c.in-Ok.ensures.ok ∙ ap Some c.in-Build.is) asks c.run_build.ensures.run
 
 pub returns-in-Build-clause-generated : goal.returns-in-Build-clause-generated
 returns-in-Build-clause-generated g c = λ n asks. absurd (other_job _ (Build c.in-Build.digits c.in-Build.cap c.in-Build.budget) (Gen n) (c.in-Ok.ensures.ok ∙ ap Some c.in-Build.is) asks (λ e. cc))

@@ -21,11 +21,11 @@ use Rattle.tpz_base.proofs.Elements.{all_from}
 use Rattle.patch_file.specs.Blocks.{is_right_tri}
 use Rattle.tri_stream.specs.Lists.{IsHeld}
 use Rattle.diamond_graph.specs.Adding.{most_centres}
-use Rattle.puzzle_cli.specs.declared.building.Summary.{Summary}
+use Rattle.command_build.specs.declared.build.Summary.{Summary}
 use Rattle.mesh_stream.specs.declared.reading.InputStream.{InputStream}
 use Rattle.run_status.specs.declared.status.Status.{Status}
 use Rattle.run_status.specs.declared.status.Status.TheVariants as status
-use Rattle.puzzle_cli.specs.Build.{built_of, params_of, stream_params, summary_of}
+use Rattle.command_build.specs.Build.{built_of, params_of, stream_params, summary_of}
 use Rattle.mesh_stream.specs.Readings.{IsSmallStream, IsStreamOf}
 use Rattle.run_status.specs.Statuses.{build_status, IsOfStreams, IsRefused, IsUnbuilt, IsUnread}
 use Rattle.run_status.proofs.StreamFaults.{split_never, split_not_refused, split_unbuilt}

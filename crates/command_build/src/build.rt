@@ -13,11 +13,11 @@ ghost use Rattle.assign.specs.Splits.{split_set};
 ghost use Rattle.patch_file.specs.Writing.{claimed};
 ghost use Rattle.build_pass.specs.Building.{store_of, IsBuildable};
 ghost use Rattle.run_status.specs.declared.status.Status.{Status};
-ghost use Rattle.puzzle_cli.specs.Build.{build_note, built_of, built_text, input_store, params_of, read_text, stream_params, summary_of, IsLeft, IsLeftOver};
+ghost use Rattle.command_build.specs.Build.{build_note, built_of, built_text, input_store, params_of, read_text, stream_params, summary_of, IsLeft, IsLeftOver};
 ghost use Rattle.mesh_stream.specs.Digits.{digits_of, input_for, IsAccepted};
 ghost use Rattle.mesh_stream.specs.Splits.{finest_split};
 ghost use Rattle.mesh_stream.specs.Readings.{IsSmallStream};
-ghost use Rattle.puzzle_cli.specs.BuildRuns.{BuildRun};
+ghost use Rattle.command_build.specs.BuildRuns.{BuildRun};
 ghost use Rattle.run_status.specs.Statuses.{status_of, IsOfStreams, IsRefused, IsUnbuilt};
 
 use assign::Leaves;
@@ -237,7 +237,7 @@ pub fn write_note<O: Out>(
 }
 
 /// Builds the store of an input, and writes the note.
-pub fn build_input<I: Source, W: Blob, S: Blob, O: Out>(
+pub fn run_build<I: Source, W: Blob, S: Blob, O: Out>(
     alloc: Global,
     plan: Plan,
     input: &mut I,

@@ -12,8 +12,8 @@ use Rattle.build_pass.specs.Building.{greatest_fine, store_of}
 use Rattle.tri_stream.proofs.Changes.{untold_before}
 use Rattle.mesh_stream.proofs.ReadLemmas.{told_later, err_is}
 use Rattle.run_status.proofs.StreamFaults.{split_told, split_was_damage, split_was_fault}
-use Rattle.puzzle_cli.proofs.BuildSteps.{build_told, build_was_damage, build_was_fault, built_is, never_too_many, split_at, store_fault_told, stream_buildable, told_bytes}
-use Rattle.puzzle_cli.proofs.building.store_stream.Goals as goal
+use Rattle.command_build.proofs.BuildSteps.{build_told, build_was_damage, build_was_fault, built_is, never_too_many, split_at, store_fault_told, stream_buildable, told_bytes}
+use Rattle.command_build.proofs.build.store_stream.Goals as goal
 
 pub returns-in-Ok-build-clause-built : goal.returns-in-Ok-build-clause-built
 returns-in-Ok-build-clause-built g c = λ M told.

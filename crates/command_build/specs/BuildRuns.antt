@@ -13,7 +13,7 @@ use Rattle.run_status.specs.declared.status.Status.{Status}
 use Rattle.run_status.specs.declared.status.Status.TheVariants as status
 use Rattle.mesh_stream.specs.Digits.{digits_of, input_for, IsAccepted}
 use Rattle.mesh_stream.specs.Splits.{finest_split}
-use Rattle.puzzle_cli.specs.Build.{build_items, input_store, params_of, IsLeft, IsLeftOver}
+use Rattle.command_build.specs.Build.{build_items, input_store, params_of, IsLeft, IsLeftOver}
 use Rattle.run_status.specs.Statuses.{status_of, IsRefused}
 
 -- a run of `build`, by what the store tells before and after it and how often it was asked, and by whether the other devices weren't touched

@@ -14,7 +14,7 @@ use Rattle.patch_file.specs.Tables.{Table}
 use Rattle.patch_file.specs.Written.{ReadsUnfinished}
 use Rattle.build_pass.specs.declared.pass.Built.{Built}
 use Rattle.build_pass.specs.Building.{greatest_fine, store_of}
-use Rattle.puzzle_cli.specs.declared.building.Summary.{Summary}
+use Rattle.command_build.specs.declared.build.Summary.{Summary}
 use Rattle.mesh_stream.specs.declared.reading.InputStream.{InputStream}
 
 -- what the store of an input of these digits, rows and faces says of its build

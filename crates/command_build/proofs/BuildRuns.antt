@@ -9,13 +9,13 @@ use Rattle.tpz_base.specs.Cubes.{Row}
 use Rattle.ply_body.specs.Inputs.{Refusal, mesh_of}
 use Rattle.diamond_graph.specs.Adding.{most_centres}
 use Rattle.build_pass.specs.Building.{IsBuildable}
-use Rattle.puzzle_cli.specs.declared.building.Summary.{Summary}
+use Rattle.command_build.specs.declared.build.Summary.{Summary}
 use Rattle.run_status.specs.declared.status.Status.{Status}
 use Rattle.run_status.specs.declared.status.Status.TheVariants as status
-use Rattle.puzzle_cli.specs.Build.{build_items, build_note, input_store, params_of, summary_of, IsLeft, IsLeftOver}
+use Rattle.command_build.specs.Build.{build_items, build_note, input_store, params_of, summary_of, IsLeft, IsLeftOver}
 use Rattle.mesh_stream.specs.Digits.{digits_of, input_for, IsAccepted}
 use Rattle.mesh_stream.specs.Splits.{finest_split}
-use Rattle.puzzle_cli.specs.BuildRuns.{BuildRun}
+use Rattle.command_build.specs.BuildRuns.{BuildRun}
 use Rattle.run_status.specs.Statuses.{status_of, IsOfStore, IsRefused, IsUnbuilt}
 use Rattle.mesh_stream.proofs.Completing.{answered}
 use Rattle.mesh_output.proofs.Exports.{none_yet, nothing}

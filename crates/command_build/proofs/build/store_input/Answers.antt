@@ -6,14 +6,14 @@ use Rattle.ply_body.specs.Inputs.{mesh_of}
 use Rattle.assign.specs.Splits.{split_set}
 use Rattle.patch_file.specs.declared.shape.Params.{Params}
 use Rattle.build_pass.specs.Building.{store_of, IsBuildable}
-use Rattle.puzzle_cli.specs.Build.{input_store, IsLeft}
+use Rattle.command_build.specs.Build.{input_store, IsLeft}
 use Rattle.run_status.specs.declared.status.Status.TheVariants as status
 use Rattle.mesh_stream.specs.Digits.{digits_of}
 use Rattle.run_status.specs.Statuses.{IsOfStreams}
 use Rattle.tri_stream.proofs.Changes.{untold_before}
 use Rattle.mesh_stream.proofs.ReadLemmas.{err_is}
-use Rattle.puzzle_cli.proofs.BuildSteps.{params_same, stored_never, stored_not_refused, stored_unbuilt, summary_same, unread_never, unread_unbuilt}
-use Rattle.puzzle_cli.proofs.building.store_input.Goals as goal
+use Rattle.command_build.proofs.BuildSteps.{params_same, stored_never, stored_not_refused, stored_unbuilt, summary_same, unread_never, unread_unbuilt}
+use Rattle.command_build.proofs.build.store_input.Goals as goal
 
 pub returns-in-Err-read_stream-clause-accepted : goal.returns-in-Err-read_stream-clause-accepted
 returns-in-Err-read_stream-clause-accepted g c = λ h.

@@ -1,10 +1,10 @@
 -- The input is built, and its note written.
 use Rattle.std.proofs.Common.{refl, ap, inl, inr, Err}
 use Rattle.run_status.specs.declared.status.Status.TheVariants as status
-use Rattle.puzzle_cli.proofs.BuildRuns.{built_run, unbuilt_run}
+use Rattle.command_build.proofs.BuildRuns.{built_run, unbuilt_run}
 use Rattle.mesh_stream.proofs.ReadLemmas.{err_is}
 use Rattle.mesh_output.proofs.OutAnswers.{isnt}
-use Rattle.puzzle_cli.proofs.building.build_input.Goals as goal
+use Rattle.command_build.proofs.build.run_build.Goals as goal
 
 pub returns-in-Err-clause-run : goal.returns-in-Err-clause-run
 returns-in-Err-clause-run g c =
