@@ -11,7 +11,7 @@ use Rattle.command_finest.specs.FinestRuns.{FinestRun}
 use Rattle.command_build.specs.BuildRuns.{BuildRun}
 use Rattle.command_gen.specs.GenRuns.{GenRun}
 use Rattle.command_info.specs.InfoRuns.{InfoRun}
-use Rattle.puzzle_cli.specs.ReplayRuns.{ReplayRun, TourRun}
+use Rattle.command_replay.specs.ReplayRuns.{ReplayRun, TourRun}
 use Rattle.command_words.proofs.JobRanges.{one_job}
 
 pub same_finest : {left held : Option Bytes} {input_failed work_failed out_failed : Type 0} {p0 p1 : Option (List Bytes)} {n0 n1 : Option Bytes} {answer : Status} (o : Option Job) (d k d' k' : Option ℕ)

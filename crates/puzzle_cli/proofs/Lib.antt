@@ -1,5 +1,1 @@
 pub mod JobRuns
-mod PlayLaw
-mod Progress
-mod ReplayRuns
-mod TourRuns

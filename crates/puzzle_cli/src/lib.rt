@@ -11,15 +11,14 @@ ghost use Rattle.command_finest.specs.FinestRuns.{FinestRun};
 ghost use Rattle.command_build.specs.BuildRuns.{BuildRun};
 ghost use Rattle.command_gen.specs.GenRuns.{GenRun};
 ghost use Rattle.command_info.specs.InfoRuns.{InfoRun};
-ghost use Rattle.puzzle_cli.specs.ReplayRuns.{ReplayRun, TourRun};
+ghost use Rattle.command_replay.specs.ReplayRuns.{ReplayRun, TourRun};
 
-mod replaying;
-mod touring;
 
 use command_build::{Plan, run_build};
 use command_finest::run_finest;
 use command_gen::run_gen;
 use command_info::run_info;
+use command_replay::{run_replay, run_tour};
 pub use command_words::{Job, WordsFault, read_words};
 pub use run_status::{InputKind, Place, ReadAt, Status};
 use std::alloc::Global;
@@ -111,13 +110,13 @@ pub fn run<I: Source, C: Source, W: Blob, S: Blob, O: Out>(
         ),
         Job::Gen { size } => run_gen(alloc, size, out),
         Job::Info { tries } => run_info(alloc, tries, store, out),
-        Job::Replay { tries } => replaying::replay(alloc, tries, script, store, out),
+        Job::Replay { tries } => run_replay(alloc, tries, script, store, out),
         Job::Tour {
             digits,
             cap,
             budget,
             tries,
-        } => touring::tour(
+        } => run_tour(
             alloc,
             Plan {
                 digits,

@@ -14,8 +14,8 @@ use Rattle.command_gen.proofs.GenRuns.{gen_unstarted, gen_complete}
 use Rattle.command_info.proofs.InfoRuns.{info_unstarted, never_told, info_run}
 use Rattle.mesh_output.proofs.OutAnswers.{never}
 use Rattle.command_build.proofs.BuildRuns.{build_unstarted}
-use Rattle.puzzle_cli.proofs.ReplayRuns.{not_replayed, replay_unstarted}
-use Rattle.puzzle_cli.proofs.TourRuns.{tour_unstarted}
+use Rattle.command_replay.proofs.ReplayRuns.{not_replayed, replay_unstarted}
+use Rattle.command_replay.proofs.TourRuns.{tour_unstarted}
 use Rattle.mesh_stream.proofs.Completing.{answered}
 use Rattle.puzzle_cli.proofs.run.Goals as goal
 
@@ -249,14 +249,14 @@ returns-in-Gen-clause-replayed g c = λ n asks. absurd (other_job _ (Replay n) (
 pub returns-in-Info-clause-replayed : goal.returns-in-Info-clause-replayed
 returns-in-Info-clause-replayed g c = λ n asks. absurd (other_job _ (Replay n) (Info c.in-Info.tries) asks (c.in-Ok.ensures.ok ∙ ap Some c.in-Info.is) (λ e. cc))
 
-pub replay-requires-clause-some : goal.replay-requires-clause-some
-replay-requires-clause-some g c = (asked_replay _ c.in-Replay.tries (c.in-Ok.ensures.ok ∙ ap Some c.in-Replay.is)).0
+pub run_replay-requires-clause-some : goal.run_replay-requires-clause-some
+run_replay-requires-clause-some g c = (asked_replay _ c.in-Replay.tries (c.in-Ok.ensures.ok ∙ ap Some c.in-Replay.is)).0
 
-pub replay-requires-clause-few : goal.replay-requires-clause-few
-replay-requires-clause-few g c = (asked_replay _ c.in-Replay.tries (c.in-Ok.ensures.ok ∙ ap Some c.in-Replay.is)).1
+pub run_replay-requires-clause-few : goal.run_replay-requires-clause-few
+run_replay-requires-clause-few g c = (asked_replay _ c.in-Replay.tries (c.in-Ok.ensures.ok ∙ ap Some c.in-Replay.is)).1
 
 pub returns-in-Replay-clause-usage : goal.returns-in-Replay-clause-usage
-returns-in-Replay-clause-usage g c = λ e. absurd (not_replayed _ status.Usage c.replay.ensures.status (λ h. h) e)
+returns-in-Replay-clause-usage g c = λ e. absurd (not_replayed _ status.Usage c.run_replay.ensures.status (λ h. h) e)
 
 pub returns-in-Replay-clause-asked : goal.returns-in-Replay-clause-asked
 returns-in-Replay-clause-asked g c = λ none. absurd (some_or_none _ _ c.in-Ok.ensures.ok none)
@@ -271,13 +271,13 @@ pub returns-in-Replay-clause-same_out : goal.returns-in-Replay-clause-same_out
 returns-in-Replay-clause-same_out g c = λ isnt. absurd (touched (λ (d : Devices). d.out) _ _ (c.in-Ok.ensures.ok ∙ ap Some c.in-Replay.is) refl isnt)
 
 pub returns-in-Replay-clause-input_fault : goal.returns-in-Replay-clause-input_fault
-returns-in-Replay-clause-input_fault g c = λ e. absurd (not_replayed _ status.InputFault c.replay.ensures.status (λ h. h) e)
+returns-in-Replay-clause-input_fault g c = λ e. absurd (not_replayed _ status.InputFault c.run_replay.ensures.status (λ h. h) e)
 
 pub returns-in-Replay-clause-work_fault : goal.returns-in-Replay-clause-work_fault
-returns-in-Replay-clause-work_fault g c = λ e. absurd (not_replayed _ status.WorkFault c.replay.ensures.status (λ h. h) e)
+returns-in-Replay-clause-work_fault g c = λ e. absurd (not_replayed _ status.WorkFault c.run_replay.ensures.status (λ h. h) e)
 
 pub returns-in-Replay-clause-work_damage : goal.returns-in-Replay-clause-work_damage
-returns-in-Replay-clause-work_damage g c = λ offset e. absurd (not_replayed _ (status.WorkDamage offset) c.replay.ensures.status (λ h. h) e)
+returns-in-Replay-clause-work_damage g c = λ offset e. absurd (not_replayed _ (status.WorkDamage offset) c.run_replay.ensures.status (λ h. h) e)
 
 pub returns-in-Replay-clause-finest : goal.returns-in-Replay-clause-finest
 returns-in-Replay-clause-finest g c = λ d k asks. absurd (other_job _ (Replay c.in-Replay.tries) (Finest d k) (c.in-Ok.ensures.ok ∙ ap Some c.in-Replay.is) asks (λ e. cc))
@@ -293,7 +293,7 @@ returns-in-Replay-clause-told g c = λ n asks. absurd (other_job _ (Replay c.in-
 
 pub returns-in-Replay-clause-replayed : goal.returns-in-Replay-clause-replayed
 returns-in-Replay-clause-replayed g c = λ n asks.
-    same_replay (g.S.Blob.faults c.args.store.now) (g.S.Blob.faults c.replay.new.store) _ c.in-Replay.tries n (c.in-Ok.ensures.ok ∙ ap Some c.in-Replay.is) asks c.replay.ensures.run
+    same_replay (g.S.Blob.faults c.args.store.now) (g.S.Blob.faults c.run_replay.new.store) _ c.in-Replay.tries n (c.in-Ok.ensures.ok ∙ ap Some c.in-Replay.is) asks c.run_replay.ensures.run
 
 -- ---- `tour`
 
@@ -318,26 +318,26 @@ returns-in-Info-clause-toured g c = λ d k b n asks. absurd (other_job _ (Tour d
 pub returns-in-Replay-clause-toured : goal.returns-in-Replay-clause-toured
 returns-in-Replay-clause-toured g c = λ d k b n asks. absurd (other_job _ (Tour d k b n) (Replay c.in-Replay.tries) asks (c.in-Ok.ensures.ok ∙ ap Some c.in-Replay.is) (λ e. cc))
 
-pub tour-requires-clause-digits : goal.tour-requires-clause-digits
-tour-requires-clause-digits g c = (asked_tour _ c.in-Tour.digits c.in-Tour.cap c.in-Tour.budget c.in-Tour.tries (c.in-Ok.ensures.ok ∙ ap Some c.in-Tour.is)).0
+pub run_tour-requires-clause-digits : goal.run_tour-requires-clause-digits
+run_tour-requires-clause-digits g c = (asked_tour _ c.in-Tour.digits c.in-Tour.cap c.in-Tour.budget c.in-Tour.tries (c.in-Ok.ensures.ok ∙ ap Some c.in-Tour.is)).0
 
-pub tour-requires-clause-some_cap : goal.tour-requires-clause-some_cap
-tour-requires-clause-some_cap g c = (asked_tour _ c.in-Tour.digits c.in-Tour.cap c.in-Tour.budget c.in-Tour.tries (c.in-Ok.ensures.ok ∙ ap Some c.in-Tour.is)).1.0
+pub run_tour-requires-clause-some_cap : goal.run_tour-requires-clause-some_cap
+run_tour-requires-clause-some_cap g c = (asked_tour _ c.in-Tour.digits c.in-Tour.cap c.in-Tour.budget c.in-Tour.tries (c.in-Ok.ensures.ok ∙ ap Some c.in-Tour.is)).1.0
 
-pub tour-requires-clause-most_cap : goal.tour-requires-clause-most_cap
-tour-requires-clause-most_cap g c = (asked_tour _ c.in-Tour.digits c.in-Tour.cap c.in-Tour.budget c.in-Tour.tries (c.in-Ok.ensures.ok ∙ ap Some c.in-Tour.is)).1.1
+pub run_tour-requires-clause-most_cap : goal.run_tour-requires-clause-most_cap
+run_tour-requires-clause-most_cap g c = (asked_tour _ c.in-Tour.digits c.in-Tour.cap c.in-Tour.budget c.in-Tour.tries (c.in-Ok.ensures.ok ∙ ap Some c.in-Tour.is)).1.1
 
-pub tour-requires-clause-some_budget : goal.tour-requires-clause-some_budget
-tour-requires-clause-some_budget g c = (asked_tour _ c.in-Tour.digits c.in-Tour.cap c.in-Tour.budget c.in-Tour.tries (c.in-Ok.ensures.ok ∙ ap Some c.in-Tour.is)).2.0
+pub run_tour-requires-clause-some_budget : goal.run_tour-requires-clause-some_budget
+run_tour-requires-clause-some_budget g c = (asked_tour _ c.in-Tour.digits c.in-Tour.cap c.in-Tour.budget c.in-Tour.tries (c.in-Ok.ensures.ok ∙ ap Some c.in-Tour.is)).2.0
 
-pub tour-requires-clause-most_budget : goal.tour-requires-clause-most_budget
-tour-requires-clause-most_budget g c = (asked_tour _ c.in-Tour.digits c.in-Tour.cap c.in-Tour.budget c.in-Tour.tries (c.in-Ok.ensures.ok ∙ ap Some c.in-Tour.is)).2.1
+pub run_tour-requires-clause-most_budget : goal.run_tour-requires-clause-most_budget
+run_tour-requires-clause-most_budget g c = (asked_tour _ c.in-Tour.digits c.in-Tour.cap c.in-Tour.budget c.in-Tour.tries (c.in-Ok.ensures.ok ∙ ap Some c.in-Tour.is)).2.1
 
-pub tour-requires-clause-some : goal.tour-requires-clause-some
-tour-requires-clause-some g c = (asked_tour _ c.in-Tour.digits c.in-Tour.cap c.in-Tour.budget c.in-Tour.tries (c.in-Ok.ensures.ok ∙ ap Some c.in-Tour.is)).3.0
+pub run_tour-requires-clause-some : goal.run_tour-requires-clause-some
+run_tour-requires-clause-some g c = (asked_tour _ c.in-Tour.digits c.in-Tour.cap c.in-Tour.budget c.in-Tour.tries (c.in-Ok.ensures.ok ∙ ap Some c.in-Tour.is)).3.0
 
-pub tour-requires-clause-few : goal.tour-requires-clause-few
-tour-requires-clause-few g c = (asked_tour _ c.in-Tour.digits c.in-Tour.cap c.in-Tour.budget c.in-Tour.tries (c.in-Ok.ensures.ok ∙ ap Some c.in-Tour.is)).3.1
+pub run_tour-requires-clause-few : goal.run_tour-requires-clause-few
+run_tour-requires-clause-few g c = (asked_tour _ c.in-Tour.digits c.in-Tour.cap c.in-Tour.budget c.in-Tour.tries (c.in-Ok.ensures.ok ∙ ap Some c.in-Tour.is)).3.1
 
 pub returns-in-Tour-clause-asked : goal.returns-in-Tour-clause-asked
 returns-in-Tour-clause-asked g c = λ none. absurd (some_or_none _ _ c.in-Ok.ensures.ok none)
@@ -374,4 +374,4 @@ returns-in-Tour-clause-replayed g c = λ n asks. absurd (other_job _ (Tour c.in-
 
 pub returns-in-Tour-clause-toured : goal.returns-in-Tour-clause-toured
 returns-in-Tour-clause-toured g c = λ d k b n asks.
-    same_tour _ c.in-Tour.digits c.in-Tour.cap c.in-Tour.budget c.in-Tour.tries d k b n (c.in-Ok.ensures.ok ∙ ap Some c.in-Tour.is) asks c.tour.ensures.run
+    same_tour _ c.in-Tour.digits c.in-Tour.cap c.in-Tour.budget c.in-Tour.tries d k b n (c.in-Ok.ensures.ok ∙ ap Some c.in-Tour.is) asks c.run_tour.ensures.run
