@@ -13,7 +13,6 @@ ghost use Rattle.command_gen.specs.GenRuns.{GenRun};
 ghost use Rattle.command_info.specs.InfoRuns.{InfoRun};
 ghost use Rattle.command_replay.specs.ReplayRuns.{ReplayRun, TourRun};
 
-
 use command_build::{Plan, run_build};
 use command_finest::run_finest;
 use command_gen::run_gen;
