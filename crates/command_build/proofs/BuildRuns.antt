@@ -2,7 +2,7 @@
 use Rattle.std.proofs.Common.{◌≡◌, ◌≤◌, ◌<◌, ℕ, ◌⊎◌, List, [], ◌∷◌, length, refl, sym, ◌∙◌, subst, inl, inr, arith}
 use Rattle.std.specs.Prelude.{is_some, Option, Some, None, Ok, Err}
 use Rattle.std.specs.Option.{ForSome}
-use Rattle.tpz_io.specs.Causes.{one_more}
+use Rattle.tpz_io.specs.Causes.{one_more, Rose}
 use Rattle.tpz_io.specs.Writes.{Note, Wrote}
 use Rattle.tpz_base.specs.Texts.{Bytes, Face}
 use Rattle.tpz_base.specs.Cubes.{Row}
@@ -20,10 +20,11 @@ use Rattle.run_status.specs.Statuses.{status_of, IsOfStore, IsRefused, IsUnbuilt
 use Rattle.mesh_stream.proofs.Completing.{answered}
 use Rattle.mesh_output.proofs.Exports.{none_yet, nothing}
 use Rattle.mesh_output.proofs.OutAnswers.{never, IsGenAnswer}
+use Rattle.run_record.specs.Seen.{Seen}
 
-pub build_unstarted : (digits : Option ℕ) (cap budget : ℕ) (left worked held : Option Bytes) (reads : ℕ) (untouched input_failed work_failed store_failed out_failed : Type 0) (p : Option (List Bytes)) (n : Option Bytes)
-    → BuildRun digits cap budget left worked held held reads reads untouched input_failed work_failed store_failed out_failed p p n n status.Memory
-build_unstarted digits cap budget left worked held reads untouched input_failed work_failed store_failed out_failed p n = record {
+-- memory ran out before a device was touched
+pub build_unstarted : (digits : Option ℕ) (cap budget : ℕ) (s : Seen) (untouched : Type 0) → BuildRun digits cap budget s s untouched status.Memory
+build_unstarted digits cap budget s untouched = record {
   ok = λ e. absurd cc;
   whole = λ h. absurd (elim h [ inl e ↦ cc | inr e ↦ cc ]);
   buildable = λ h. absurd (elim h [ inl e ↦ cc | inr e ↦ cc ]);
@@ -40,9 +41,9 @@ build_unstarted digits cap budget left worked held reads untouched input_failed 
   after = λ a bytes told h keeps rows faces means. inl refl;
   left_over = inl refl;
   telling = refl;
-  front = λ bytes told h keeps rows faces means. none_yet _ p p n n refl refl;
-  unaccepted = λ bytes told not_accepted. nothing p p n n refl refl;
-  unread = λ a. nothing p p n n refl refl;
+  front = λ bytes told h keeps rows faces means. none_yet _ s.out.parts s.out.parts s.out.notes s.out.notes refl refl;
+  unaccepted = λ bytes told not_accepted. nothing s.out.parts s.out.parts s.out.notes s.out.notes refl refl;
+  unread = λ a. nothing s.out.parts s.out.parts s.out.notes s.out.notes refl refl;
 }
 
 -- a list is as long as nothing, and longer
@@ -51,26 +52,27 @@ not_both store len none is some = omega (arith, none, is, some)
 
 -- ---- no store was built
 
-module _ (digits : Option ℕ) (cap budget : ℕ) (left worked held held' : Option Bytes) (reads reads' : ℕ) (untouched input_failed work_failed store_failed out_failed : Type 0) (p : Option (List Bytes)) (n : Option Bytes) (answer : Status)
+module _ (digits : Option ℕ) (cap budget : ℕ) (old new : Seen) (untouched : Type 0) (answer : Status)
     (is : IsUnbuilt answer)
-    (refused : IsRefused answer → ForSome left (λ bytes. (r : Refusal) × (input_for digits bytes ≡ Err r) × (answer ≡ status_of r)))
-    (accepted : answer ≡ status.TooManyRecords → ForSome left (IsAccepted digits))
-    (too_many : answer ≡ status.TooManyRecords → ForSome left (λ bytes. ForSome worked (λ _. (rows : List Row) (faces : List Face)
+    (refused : IsRefused answer → ForSome old.input.left (λ bytes. (r : Refusal) × (input_for digits bytes ≡ Err r) × (answer ≡ status_of r)))
+    (accepted : answer ≡ status.TooManyRecords → ForSome old.input.left (IsAccepted digits))
+    (too_many : answer ≡ status.TooManyRecords → ForSome old.input.left (λ bytes. ForSome old.work.held (λ _. (rows : List Row) (faces : List Face)
     → input_for digits bytes ≡ Ok (record { rows = rows; faces = faces }) → most_centres < length (finest_split (Some cap) rows faces))))
-    (not_empty : (len : ℕ) → answer ≡ status.NotEmpty len → (0 < len) × ForSome held (λ store. length store ≡ len) × untouched)
-    (empty : ForSome held (λ store. 0 < length store → (answer ≡ status.NotEmpty (length store)) ⊎ (answer ≡ status.StoreFault)))
-    (fault : answer ≡ status.StoreFault → store_failed)
-    (input_fault : answer ≡ status.InputFault → input_failed)
-    (work_fault : answer ≡ status.WorkFault → work_failed)
-    (damage : (offset : ℕ) → answer ≡ status.WorkDamage offset → worked ≡ None)
-    (asked : reads' ≡ one_more reads)
-    (before : ¬ (answer ≡ status.StoreFault) → ¬ (answer ≡ status.Memory) → ¬ (answer ≡ status.WorkFault) → ((offset : ℕ) → ¬ (answer ≡ status.WorkDamage offset)) → held' ≡ held)
-    (after : ForSome left (λ bytes. ForSome worked (λ _. (rows : List Row) (faces : List Face)
-    → input_for digits bytes ≡ Ok (record { rows = rows; faces = faces }) → IsLeft held held' (input_store cap budget (digits_of digits bytes) rows faces))))
-    (left_over : IsLeftOver held held')
-    (telling : is_some held' ≡ is_some held) where
+    (not_empty : (len : ℕ) → answer ≡ status.NotEmpty len → (0 < len) × ForSome old.store.held (λ store. length store ≡ len) × untouched)
+    (empty : ForSome old.store.held (λ store. 0 < length store → (answer ≡ status.NotEmpty (length store)) ⊎ (answer ≡ status.StoreFault)))
+    (fault : answer ≡ status.StoreFault → Rose old.store.faults new.store.faults)
+    (input_fault : answer ≡ status.InputFault → Rose old.input.faults new.input.faults)
+    (work_fault : answer ≡ status.WorkFault → Rose old.work.faults new.work.faults)
+    (damage : (offset : ℕ) → answer ≡ status.WorkDamage offset → old.work.held ≡ None)
+    (asked : new.store.reads ≡ one_more old.store.reads)
+    (before : ¬ (answer ≡ status.StoreFault) → ¬ (answer ≡ status.Memory) → ¬ (answer ≡ status.WorkFault) → ((offset : ℕ) → ¬ (answer ≡ status.WorkDamage offset)) → new.store.held ≡ old.store.held)
+    (after : ForSome old.input.left (λ bytes. ForSome old.work.held (λ _. (rows : List Row) (faces : List Face)
+    → input_for digits bytes ≡ Ok (record { rows = rows; faces = faces }) → IsLeft old.store.held new.store.held (input_store cap budget (digits_of digits bytes) rows faces))))
+    (left_over : IsLeftOver old.store.held new.store.held)
+    (telling : is_some new.store.held ≡ is_some old.store.held)
+    (parts : new.out.parts ≡ old.out.parts) (notes : new.out.notes ≡ old.out.notes) where
   -- over an empty store that didn't fail no answer is that of a store
-  none_of_store : (store : Bytes) → held ≡ Some store → length store ≡ 0 → ¬ store_failed → (answer' : Status) → answer ≡ answer' → IsOfStore answer' → ⊥
+  none_of_store : (store : Bytes) → old.store.held ≡ Some store → length store ≡ 0 → ¬ Rose old.store.faults new.store.faults → (answer' : Status) → answer ≡ answer' → IsOfStore answer' → ⊥
   none_of_store store at none no_store status.StoreFault e own = no_store (fault e)
   none_of_store store at none no_store (status.NotEmpty len) e own = let k = not_empty len e in not_both store len none (k.1 store at) k.0
   none_of_store store at none no_store (status.ScriptBad line) e own = subst (λ s. IsUnbuilt s) e is
@@ -91,7 +93,7 @@ module _ (digits : Option ℕ) (cap budget : ℕ) (left worked held held' : Opti
   unbuilt : {X : Type 0} (other : Status) → answer ≡ other → (IsUnbuilt other → ⊥) → X
   unbuilt other e isnt = absurd (isnt (subst (λ s. IsUnbuilt s) e is))
 
-  pub unbuilt_run : BuildRun digits cap budget left worked held held' reads reads' untouched input_failed work_failed store_failed out_failed p p n n answer
+  pub unbuilt_run : BuildRun digits cap budget old new untouched answer
   unbuilt_run = record {
     ok = λ e. unbuilt status.Ok e (λ h. h);
     whole = λ h. elim h [ inl e ↦ unbuilt status.Ok e (λ h. h) | inr e ↦ unbuilt status.OutFault e (λ h. h) ];
@@ -121,33 +123,33 @@ module _ (digits : Option ℕ) (cap budget : ℕ) (left worked held held' : Opti
     after = λ a. after;
     left_over = left_over;
     telling = telling;
-    front = λ bytes told h keeps rows faces means. none_yet _ p p n n refl refl;
-    unaccepted = λ bytes told not_accepted. nothing p p n n refl refl;
-    unread = λ a. nothing p p n n refl refl;
+    front = λ bytes told h keeps rows faces means. none_yet _ _ _ _ _ parts notes;
+    unaccepted = λ bytes told not_accepted. nothing _ _ _ _ parts notes;
+    unread = λ a. nothing _ _ _ _ parts notes;
   }
 
 -- ---- the store was built, and the note written or not
 
-module _ (digits : Option ℕ) (cap budget : ℕ) (left worked held held' : Option Bytes) (reads reads' : ℕ) (untouched input_failed work_failed store_failed out_failed : Type 0) (p0 p1 : Option (List Bytes)) (n0 n1 : Option Bytes) (answer : Status) (summary : Summary)
+module _ (digits : Option ℕ) (cap budget : ℕ) (old new : Seen) (untouched : Type 0) (answer : Status) (summary : Summary)
     (is : IsGenAnswer answer)
-    (built : ForSome left (λ bytes. ForSome worked (λ _. (rows : List Row) (faces : List Face) → input_for digits bytes ≡ Ok (record { rows = rows; faces = faces }) → summary ≡ summary_of cap budget rows faces)))
-    (whole : ForSome left (λ bytes. ForSome worked (λ _. (rows : List Row) (faces : List Face)
-    → input_for digits bytes ≡ Ok (record { rows = rows; faces = faces }) → ForSome held' (λ store. store ≡ input_store cap budget (digits_of digits bytes) rows faces))))
-    (buildable : ForSome left (λ bytes. ForSome worked (λ _. (rows : List Row) (faces : List Face)
+    (built : ForSome old.input.left (λ bytes. ForSome old.work.held (λ _. (rows : List Row) (faces : List Face) → input_for digits bytes ≡ Ok (record { rows = rows; faces = faces }) → summary ≡ summary_of cap budget rows faces)))
+    (whole : ForSome old.input.left (λ bytes. ForSome old.work.held (λ _. (rows : List Row) (faces : List Face)
+    → input_for digits bytes ≡ Ok (record { rows = rows; faces = faces }) → ForSome new.store.held (λ store. store ≡ input_store cap budget (digits_of digits bytes) rows faces))))
+    (buildable : ForSome old.input.left (λ bytes. ForSome old.work.held (λ _. (rows : List Row) (faces : List Face)
     → input_for digits bytes ≡ Ok (record { rows = rows; faces = faces }) → IsBuildable (mesh_of rows faces) (params_of cap budget (digits_of digits bytes) rows faces))))
-    (accepted : ForSome left (IsAccepted digits))
-    (few : ForSome left (λ bytes. ForSome worked (λ _. (rows : List Row) (faces : List Face)
+    (accepted : ForSome old.input.left (IsAccepted digits))
+    (few : ForSome old.input.left (λ bytes. ForSome old.work.held (λ _. (rows : List Row) (faces : List Face)
     → input_for digits bytes ≡ Ok (record { rows = rows; faces = faces }) → length (finest_split (Some cap) rows faces) ≤ most_centres)))
-    (empty : ForSome held (λ store. 0 < length store → ⊥))
-    (asked : reads' ≡ one_more reads)
-    (left_over : IsLeftOver held held')
-    (telling : is_some held' ≡ is_some held)
-    (written : answer ≡ status.Ok → Wrote (Note (build_note summary budget) ∷ []) p0 p1 n0 n1)
-    (unwritten : ¬ (answer ≡ status.Ok) → Wrote [] p0 p1 n0 n1)
-    (out_fault : answer ≡ status.OutFault → out_failed) where
-  told : (bytes : Bytes) → left ≡ Some bytes → (holds : Bytes) → worked ≡ Some holds → (rows : List Row) (faces : List Face) → input_for digits bytes ≡ Ok (record { rows = rows; faces = faces })
-      → answer ≡ status.Ok → Wrote (build_items cap budget rows faces) p0 p1 n0 n1
-  told bytes at holds keeps rows faces means e = subst (λ s. Wrote (Note (build_note s budget) ∷ []) p0 p1 n0 n1) (built bytes at holds keeps rows faces means) (written e)
+    (empty : ForSome old.store.held (λ store. 0 < length store → ⊥))
+    (asked : new.store.reads ≡ one_more old.store.reads)
+    (left_over : IsLeftOver old.store.held new.store.held)
+    (telling : is_some new.store.held ≡ is_some old.store.held)
+    (written : answer ≡ status.Ok → Wrote (Note (build_note summary budget) ∷ []) old.out.parts new.out.parts old.out.notes new.out.notes)
+    (unwritten : ¬ (answer ≡ status.Ok) → Wrote [] old.out.parts new.out.parts old.out.notes new.out.notes)
+    (out_fault : answer ≡ status.OutFault → Rose old.out.faults new.out.faults) where
+  told : (bytes : Bytes) → old.input.left ≡ Some bytes → (holds : Bytes) → old.work.held ≡ Some holds → (rows : List Row) (faces : List Face) → input_for digits bytes ≡ Ok (record { rows = rows; faces = faces })
+      → answer ≡ status.Ok → Wrote (build_items cap budget rows faces) old.out.parts new.out.parts old.out.notes new.out.notes
+  told bytes at holds keeps rows faces means e = subst (λ s. Wrote (Note (build_note s budget) ∷ []) old.out.parts new.out.parts old.out.notes new.out.notes) (built bytes at holds keeps rows faces means) (written e)
 
   other : {X : Type 0} (answer' : Status) → answer ≡ answer' → (status.Ok ≡ answer' → ⊥) → (status.OutFault ≡ answer' → ⊥) → (status.Memory ≡ answer' → ⊥) → X
   other answer' e a b c = absurd (never answer answer' is a b c e)
@@ -159,7 +161,7 @@ module _ (digits : Option ℕ) (cap budget : ℕ) (left worked held held' : Opti
   not_of_store answer' is h = elim is [ inl e ↦ subst (λ s. IsOfStore s) e h | inr k ↦ elim k [ inl e ↦ subst (λ s. IsOfStore s) e h | inr e ↦ subst (λ s. IsOfStore s) e h ] ]
 
   -- the note is written, or nothing is
-  done_or_not : (answer ≡ status.Ok) ⊎ Wrote [] p0 p1 n0 n1
+  done_or_not : (answer ≡ status.Ok) ⊎ Wrote [] old.out.parts new.out.parts old.out.notes new.out.notes
   done_or_not =
       elim is [
         | inl e ↦ inl e
@@ -169,7 +171,7 @@ module _ (digits : Option ℕ) (cap budget : ℕ) (left worked held held' : Opti
         ]
       ]
 
-  pub built_run : BuildRun digits cap budget left worked held held' reads reads' untouched input_failed work_failed store_failed out_failed p0 p1 n0 n1 answer
+  pub built_run : BuildRun digits cap budget old new untouched answer
   built_run = record {
     ok = λ e bytes at holds keeps rows faces means. told bytes at holds keeps rows faces means e;
     whole = λ h. whole;

@@ -18,6 +18,7 @@ ghost use Rattle.mesh_stream.specs.Digits.{digits_of, input_for, IsAccepted};
 ghost use Rattle.mesh_stream.specs.Splits.{finest_split};
 ghost use Rattle.mesh_stream.specs.Readings.{IsSmallStream};
 ghost use Rattle.command_build.specs.BuildRuns.{BuildRun};
+ghost use Rattle.run_record.specs.Seen.{SourceSeen};
 ghost use Rattle.run_status.specs.Statuses.{status_of, IsOfStreams, IsRefused, IsUnbuilt};
 
 use assign::Leaves;
@@ -250,10 +251,12 @@ pub fn run_build<I: Source, W: Blob, S: Blob, O: Out>(
     requires most_cap { plan.cap ≤ 16777216 }
     requires some { 1 ≤ plan.budget }
     requires most { plan.budget ≤ 4194304 }
-    ensures run { BuildRun plan.digits plan.cap plan.budget (I.left input.old) (W.held work.old) (S.held store.old) (S.held store.new) (S.reads store.old) (S.reads store.new)
-        ((input.new ≡ input.old) × (work.new ≡ work.old) × (out.new ≡ out.old))
-        (Rose (I.faults input.old) (I.faults input.new)) (Rose (W.faults work.old) (W.faults work.new)) (Rose (S.faults store.old) (S.faults store.new)) (Rose (O.faults out.old) (O.faults out.new))
-        (O.parts out.old) (O.parts out.new) (O.notes out.old) (O.notes out.new) result }
+    ensures run { (script script' : SourceSeen) → BuildRun plan.digits plan.cap plan.budget
+        (record { input = record { left = I.left input.old; faults = I.faults input.old }; script = script; work = record { held = W.held work.old; reads = W.reads work.old; outcomes = W.outcomes work.old; faults = W.faults work.old }; store = record { held = S.held store.old; reads = S.reads store.old; outcomes = S.outcomes store.old; faults = S.faults store.old };
+            out = record { parts = O.parts out.old; notes = O.notes out.old; faults = O.faults out.old } })
+        (record { input = record { left = I.left input.new; faults = I.faults input.new }; script = script'; work = record { held = W.held work.new; reads = W.reads work.new; outcomes = W.outcomes work.new; faults = W.faults work.new }; store = record { held = S.held store.new; reads = S.reads store.new; outcomes = S.outcomes store.new; faults = S.faults store.new };
+            out = record { parts = O.parts out.new; notes = O.notes out.new; faults = O.faults out.new } })
+        ((input.new ≡ input.old) × (work.new ≡ work.old) × (out.new ≡ out.old)) result }
     ensures asked { ¬ (result ≡ Status.Usage) }
     ensures no_script { ¬ (result ≡ Status.ScriptFault) }
     ensures input_fault { result ≡ Status.InputFault → Rose (I.faults input.old) (I.faults input.new) }

@@ -1,7 +1,5 @@
 -- What a run of `gen` says.
-use Rattle.std.proofs.Common.{◌≡◌, ℕ, ◌⊎◌, List, refl, inl, inr}
-use Rattle.std.specs.Prelude.{Option}
-use Rattle.tpz_base.specs.Texts.{Bytes}
+use Rattle.std.proofs.Common.{◌≡◌, ℕ, ◌⊎◌, refl, inl, inr}
 use Rattle.mesh_gen.proofs.Sums.{generated_closed}
 use Rattle.run_status.specs.declared.status.Status.{Status}
 use Rattle.run_status.specs.declared.status.Status.TheVariants as status
@@ -9,13 +7,15 @@ use Rattle.command_gen.specs.Gen.{gen_items}
 use Rattle.command_gen.specs.GenRuns.{GenRun}
 use Rattle.mesh_output.proofs.Exports.{none_yet}
 use Rattle.mesh_output.proofs.OutAnswers.{IsGenAnswer}
+use Rattle.run_record.specs.Seen.{Seen}
 
-pub gen_unstarted : (size : ℕ) (out_failed : Type 0) (p : Option (List Bytes)) (n : Option Bytes) → GenRun size out_failed p p n n status.Memory
-gen_unstarted size out_failed p n = record {
+-- memory ran out before a device was touched
+pub gen_unstarted : (size : ℕ) (s : Seen) → GenRun size s s status.Memory
+gen_unstarted size s = record {
   ok = λ e. absurd cc;
   closed = generated_closed size;
   complete = λ no. inr refl;
-  front = none_yet (gen_items size) p p n n refl refl;
+  front = none_yet (gen_items size) s.out.parts s.out.parts s.out.notes s.out.notes refl refl;
 }
 
 pub gen_complete : (answer : Status) (out_failed : Type 0) → IsGenAnswer answer → (answer ≡ status.OutFault → out_failed) → (out_failed → ⊥) → (answer ≡ status.Ok) ⊎ (answer ≡ status.Memory)

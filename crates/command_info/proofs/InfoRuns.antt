@@ -1,6 +1,6 @@
 -- What a run of `info` says.
 use Rattle.std.proofs.Common.{◌≡◌, ℕ, ◌⊎◌, Bool, false, List, refl, sym, ◌∙◌, ap, subst, inl, inr, ◌++◌, []}
-use Rattle.std.specs.Prelude.{Option, Some, Result, Ok, Err, replicate}
+use Rattle.std.specs.Prelude.{Some, Result, Ok, Err, replicate}
 use Rattle.std.specs.Option.{ForSome}
 use Rattle.tpz_base.specs.Texts.{Bytes}
 use Rattle.patch_file.specs.declared.shape.Params.{Params}
@@ -14,19 +14,22 @@ use Rattle.run_status.specs.declared.status.Status.{Status}
 use Rattle.run_status.specs.declared.status.Status.TheVariants as status
 use Rattle.command_info.specs.InfoRuns.{InfoRun}
 use Rattle.mesh_output.proofs.Exports.{none_yet, nothing}
+use Rattle.run_record.specs.Seen.{Seen}
+use Rattle.tpz_io.specs.Causes.{Rose}
+use Rattle.patch_file.specs.Asking.{RoseBy}
 
-pub info_unstarted : (tries : ℕ) (held : Option Bytes) (outcomes : Option (List Bool)) (read_failed out_failed : Type 0) (p : Option (List Bytes)) (n : Option Bytes)
-    → InfoRun tries held held outcomes read_failed out_failed p p n n status.Memory
-info_unstarted tries held outcomes read_failed out_failed p n = record {
+-- memory ran out before a device was touched
+pub info_unstarted : (tries : ℕ) (s : Seen) → InfoRun tries s s status.Memory
+info_unstarted tries s = record {
   ok = λ e. absurd cc;
   refused = λ bad e. absurd cc;
   fault = λ e. absurd cc;
   head = λ rec e. cc;
   complete = λ bytes told no_read no_out. (λ out is. inr refl, λ bad is. inr refl);
   same = refl;
-  written = λ bytes told out is. none_yet _ p p n n refl refl;
-  unaccepted = λ bytes told bad is. nothing p p n n refl refl;
-  unread = λ ended. nothing p p n n refl refl;
+  written = λ bytes told out is. none_yet _ s.out.parts s.out.parts s.out.notes s.out.notes refl refl;
+  unaccepted = λ bytes told bad is. nothing s.out.parts s.out.parts s.out.notes s.out.notes refl refl;
+  unread = λ ended. nothing s.out.parts s.out.parts s.out.notes s.out.notes refl refl;
 }
 
 abbrev pub IsInfoAnswer : Status → Type 0
@@ -57,16 +60,16 @@ refused_once bytes bad bad' a b = let both : ◌≡◌ {A = Result (Table × Par
 read_alike : (bytes : Bytes) (out out' : Table × Params) → read bytes ≡ Ok out → read bytes ≡ Ok out' → out ≡ out'
 read_alike bytes out out' a b = let both : ◌≡◌ {A = Result (Table × Params) StoreBad} (Ok out) (Ok out') = sym a ∙ b in cc
 
-module _ (tries : ℕ) (held : Option Bytes) (outcomes : Option (List Bool)) (read_failed out_failed : Type 0) (p0 p1 : Option (List Bytes)) (n0 n1 : Option Bytes) (answer : Status)
+module _ (tries : ℕ) (old new : Seen) (answer : Status)
     (is : IsInfoAnswer answer)
-    (ok : answer ≡ status.Ok → ForSome held (λ bytes. (out : Table × Params) × (read bytes ≡ Ok out) × Wrote (info_items out bytes) p0 p1 n0 n1))
-    (accepted : answer ≡ status.OutFault → ForSome held (λ bytes. (out : Table × Params) × (read bytes ≡ Ok out)))
-    (refused : (bad : StoreBad) → answer ≡ status.BadStore bad → ForSome held (λ bytes. read bytes ≡ Err bad))
-    (fault : answer ≡ status.ReadFault read_at.Head → read_failed)
-    (spent : answer ≡ status.ReadFault read_at.Head → ForSome outcomes (λ all. (front : List Bool) × (all ≡ front ++ replicate tries false)))
-    (out_fault : answer ≡ status.OutFault → out_failed)
-    (written : ¬ (answer ≡ status.Ok) → Wrote [] p0 p1 n0 n1) where
-  when_read : (bytes : Bytes) → held ≡ Some bytes → ¬ read_failed → ¬ out_failed → (out : Table × Params) → read bytes ≡ Ok out → (answer ≡ status.Ok) ⊎ (answer ≡ status.Memory)
+    (ok : answer ≡ status.Ok → ForSome old.store.held (λ bytes. (out : Table × Params) × (read bytes ≡ Ok out) × Wrote (info_items out bytes) old.out.parts new.out.parts old.out.notes new.out.notes))
+    (accepted : answer ≡ status.OutFault → ForSome old.store.held (λ bytes. (out : Table × Params) × (read bytes ≡ Ok out)))
+    (refused : (bad : StoreBad) → answer ≡ status.BadStore bad → ForSome old.store.held (λ bytes. read bytes ≡ Err bad))
+    (fault : answer ≡ status.ReadFault read_at.Head → RoseBy tries old.store.faults new.store.faults)
+    (spent : answer ≡ status.ReadFault read_at.Head → ForSome new.store.outcomes (λ all. (front : List Bool) × (all ≡ front ++ replicate tries false)))
+    (out_fault : answer ≡ status.OutFault → Rose old.out.faults new.out.faults)
+    (written : ¬ (answer ≡ status.Ok) → Wrote [] old.out.parts new.out.parts old.out.notes new.out.notes) where
+  when_read : (bytes : Bytes) → old.store.held ≡ Some bytes → ¬ RoseBy tries old.store.faults new.store.faults → ¬ Rose old.out.faults new.out.faults → (out : Table × Params) → read bytes ≡ Ok out → (answer ≡ status.Ok) ⊎ (answer ≡ status.Memory)
   when_read bytes told no_read no_out out means =
       elim is [
         | inl e ↦ inl e
@@ -79,7 +82,7 @@ module _ (tries : ℕ) (held : Option Bytes) (outcomes : Option (List Bool)) (re
         ]
       ]
 
-  when_refused : (bytes : Bytes) → held ≡ Some bytes → ¬ read_failed → (bad : StoreBad) → read bytes ≡ Err bad → (answer ≡ status.BadStore bad) ⊎ (answer ≡ status.Memory)
+  when_refused : (bytes : Bytes) → old.store.held ≡ Some bytes → ¬ RoseBy tries old.store.faults new.store.faults → (bad : StoreBad) → read bytes ≡ Err bad → (answer ≡ status.BadStore bad) ⊎ (answer ≡ status.Memory)
   when_refused bytes told no_read bad means =
       elim is [
         | inl e ↦ (let o = ok e bytes told in absurd (read_once bytes o.0 bad o.1 means))
@@ -93,7 +96,7 @@ module _ (tries : ℕ) (held : Option Bytes) (outcomes : Option (List Bool)) (re
       ]
 
   -- Ok, or nothing is written
-  done_or_not : (answer ≡ status.Ok) ⊎ Wrote [] p0 p1 n0 n1
+  done_or_not : (answer ≡ status.Ok) ⊎ Wrote [] old.out.parts new.out.parts old.out.notes new.out.notes
   done_or_not =
       elim is [
         | inl e ↦ inl e
@@ -109,22 +112,22 @@ module _ (tries : ℕ) (held : Option Bytes) (outcomes : Option (List Bool)) (re
         ]
       ]
 
-  front_of : (bytes : Bytes) → held ≡ Some bytes → (out : Table × Params) → read bytes ≡ Ok out → WrotePrefix (info_items out bytes) p0 p1 n0 n1
+  front_of : (bytes : Bytes) → old.store.held ≡ Some bytes → (out : Table × Params) → read bytes ≡ Ok out → WrotePrefix (info_items out bytes) old.out.parts new.out.parts old.out.notes new.out.notes
   front_of bytes told out means =
       elim done_or_not [
-        | inl e ↦ (let o = ok e bytes told in (1, subst (λ x. Wrote (info_items x bytes) p0 p1 n0 n1) (read_alike bytes o.0 out o.1 means) o.2))
+        | inl e ↦ (let o = ok e bytes told in (1, subst (λ x. Wrote (info_items x bytes) old.out.parts new.out.parts old.out.notes new.out.notes) (read_alike bytes o.0 out o.1 means) o.2))
         | inr w ↦ (0, w)
       ]
 
-  nothing_of : (bytes : Bytes) → held ≡ Some bytes → (bad : StoreBad) → read bytes ≡ Err bad → Wrote [] p0 p1 n0 n1
+  nothing_of : (bytes : Bytes) → old.store.held ≡ Some bytes → (bad : StoreBad) → read bytes ≡ Err bad → Wrote [] old.out.parts new.out.parts old.out.notes new.out.notes
   nothing_of bytes told bad means =
       elim done_or_not [
         | inl e ↦ (let o = ok e bytes told in absurd (read_once bytes o.0 bad o.1 means))
         | inr w ↦ w
       ]
 
-  pub info_run : (held' : Option Bytes) → held' ≡ held → InfoRun tries held held' outcomes read_failed out_failed p0 p1 n0 n1 answer
-  info_run held' same = record {
+  pub info_run : new.store.held ≡ old.store.held → InfoRun tries old new answer
+  info_run same = record {
     ok = ok;
     refused = refused;
     fault = λ e. (fault e, spent e);

@@ -54,6 +54,8 @@ use Rattle.cut_blocks.proofs.Opening.{ends_failed, refused_by_open}
 use Rattle.mesh_output.proofs.OutAnswers.{IsGenAnswer, never}
 use Rattle.cut_blocks.proofs.OpenLaw.{never_wrong, of_table}
 use Rattle.command_replay.proofs.Progress.{wrote_both, wrote_front, wrote_none}
+use Rattle.run_record.specs.Seen.{Seen}
+use Rattle.tpz_io.specs.Causes.{Rose}
 
 -- ---- a store is read as one table
 
@@ -129,25 +131,25 @@ open_not opening.Memory other x y z e = z e
 spent_is : (f : OpenFault) → f ≡ opening.ReadFault → is_spent {T = ℕ} (Err f) ≡ true
 spent_is f e = ap (λ (x : OpenFault). is_spent {T = ℕ} (Err x)) e
 
-module _ (tries : ℕ) (left held held' : Option Bytes) (f f' r r' : ℕ) (o o' : Option (List Bool)) (untouched script_failed out_failed : Type 0) (p : Option (List Bytes)) (n : Option Bytes) (fault : OpenFault) (answer : Status)
+module _ (tries : ℕ) (old new : Seen) (untouched : Type 0) (fault : OpenFault) (answer : Status)
     (is : answer ≡ open_status fault)
-    (bad : (b : StoreBad) → fault ≡ opening.Bad b → ForSome held (λ bs. read bs ≡ Err b))
-    (asked : HasAsked tries 4 false (is_spent {T = ℕ} (Err fault)) f f' r r' o o') where
+    (bad : (b : StoreBad) → fault ≡ opening.Bad b → ForSome old.store.held (λ bs. read bs ≡ Err b))
+    (asked : HasAsked tries 4 false (is_spent {T = ℕ} (Err fault)) old.store.faults new.store.faults old.store.reads new.store.reads old.store.outcomes new.store.outcomes) where
   not_so : (other : Status) → ((b : StoreBad) → status.BadStore b ≡ other → ⊥) → (status.ReadFault read_at.Head ≡ other → ⊥) → (status.Memory ≡ other → ⊥) → answer ≡ other → ⊥
   not_so other x y z e = open_not fault other x y z (sym is ∙ e)
 
-  failed : fault ≡ opening.ReadFault → RoseBy tries f f'
-  failed e = rose_by tries 4 false f f' r r' o o' (subst (λ b. HasAsked tries 4 false b f f' r r' o o') (spent_is fault e) asked)
+  failed : fault ≡ opening.ReadFault → RoseBy tries old.store.faults new.store.faults
+  failed e = rose_by tries 4 false old.store.faults new.store.faults old.store.reads new.store.reads old.store.outcomes new.store.outcomes (subst (λ b. HasAsked tries 4 false b old.store.faults new.store.faults old.store.reads new.store.reads old.store.outcomes new.store.outcomes) (spent_is fault e) asked)
 
-  answered : (bs : Bytes) → held ≡ Some bs → ¬ (RoseBy tries f f') → (g : OpenFault) → fault ≡ g
+  answered : (bs : Bytes) → old.store.held ≡ Some bs → ¬ (RoseBy tries old.store.faults new.store.faults) → (g : OpenFault) → fault ≡ g
       → ((b : StoreBad) → read bs ≡ Err b → (open_status g ≡ status.BadStore b) ⊎ (open_status g ≡ status.Memory)) × ((out : Stored) → read bs ≡ Ok out → open_status g ≡ status.Memory)
   answered bs told fine (opening.Bad b') e =
       (λ b h. inl (ap (λ x. status.BadStore x) (refused_once bs b' b (bad b' e bs told) h)), λ out h. absurd (read_once bs out b' h (bad b' e bs told)))
   answered bs told fine opening.ReadFault e = absurd (fine (failed e))
   answered bs told fine opening.Memory e = (λ b h. inr refl, λ out h. refl)
 
-  pub unopened_run : held' ≡ held → untouched → ReplayRun tries left held held' o' r r' untouched script_failed (RoseBy tries f f') out_failed p p n n answer
-  unopened_run same still = record {
+  pub unopened_run : new.store.held ≡ old.store.held → untouched → new.out.parts ≡ old.out.parts → new.out.notes ≡ old.out.notes → ReplayRun tries old new untouched answer
+  unopened_run same still parts notes = record {
     ok = λ e. absurd (not_so status.Ok (λ b h. cc) (λ h. cc) (λ h. cc) e);
     refused = λ b e bs told. inl (bad b (refused_by_open fault b (sym is ∙ e)) bs told);
     bad_line = λ l e. absurd (not_so (status.ScriptBad l) (λ b h. cc) (λ h. cc) (λ h. cc) e);
@@ -163,10 +165,10 @@ module _ (tries : ℕ) (left held held' : Option Bytes) (f f' r r' : ℕ) (o o' 
         (λ b h. elim (a.0 b h) [ inl e ↦ inl (is ∙ e) | inr e ↦ inr (is ∙ e) ], λ out h. inr (is ∙ a.1 out h));
     same = same;
     asked = λ text _ bs told out h.
-        asked_most tries 4 (4 + length (played out text).reads) _ _ f f' r r' o o' (omega arith) asked;
-    asked_refused = λ bs told b h. asked_most tries 4 4 _ _ f f' r r' o o' (omega arith) asked;
-    front = λ not_ok text _ bs told out h. none_yet _ p p n n refl refl;
-    unaccepted = λ bs told b h. nothing p p n n refl refl;
+        asked_most tries 4 (4 + length (played out text).reads) _ _ old.store.faults new.store.faults old.store.reads new.store.reads old.store.outcomes new.store.outcomes (omega arith) asked;
+    asked_refused = λ bs told b h. asked_most tries 4 4 _ _ old.store.faults new.store.faults old.store.reads new.store.reads old.store.outcomes new.store.outcomes (omega arith) asked;
+    front = λ not_ok text _ bs told out h. none_yet _ _ _ _ _ parts notes;
+    unaccepted = λ bs told b h. nothing _ _ _ _ parts notes;
     faithful = λ M params b bs told e. (let k = faithful M params b bs e in (k, λ x at. read_once bs (table M params, params) x k.reads (bad x (refused_by_open fault x (sym is ∙ at)) bs told)));
     conforming = λ bs told out h. cuts_conform bs out h;
   }
@@ -196,32 +198,31 @@ lines_of_replay status.TooManyRecords h = h
 
 -- ---- lines that ended before the last
 
-module _ (tries : ℕ) (left held held' : Option Bytes) (reader : ReaderState) (graph : GraphState) (o1 : IsOpen held reader graph) (f f1 f2 r r1 r2 : ℕ) (o o' o'' : Option (List Bool)) (untouched script_failed out_failed : Type 0)
-    (p0 p1 : Option (List Bytes)) (n0 n1 : Option Bytes) (answer : Status) (player : Player)
+module _ (tries : ℕ) (old new : Seen) (untouched : Type 0) (reader : ReaderState) (graph : GraphState) (o1 : IsOpen old.store.held reader graph) (f1 r1 : ℕ) (o' : Option (List Bool)) (answer : Status) (player : Player)
     (is : IsOfLines answer)
-    (bad_line : (l : ℕ) → answer ≡ status.ScriptBad l → ForSome left (λ text. ((lines_of text).bad ≡ Some l) × ForSome held (λ bs. HasPlayed (stored_in reader bs) (played (stored_in reader bs) text) player p0 p1 n0 n1)))
+    (bad_line : (l : ℕ) → answer ≡ status.ScriptBad l → ForSome old.script.left (λ text. ((lines_of text).bad ≡ Some l) × ForSome old.store.held (λ bs. HasPlayed (stored_in reader bs) (played (stored_in reader bs) text) player old.out.parts new.out.parts old.out.notes new.out.notes)))
     (bad : (b : StoreBad) → answer ≡ status.BadStore b → (i offset : ℕ) × (b ≡ BadBlock i offset)
-    × ForSome held (λ bs. wrong_at (stored_in reader bs).0 i ≡ Some (i, offset))
-    × ForSome left (λ text. ForSome held (λ bs. first_wrong (stored_in reader bs).0 (played (stored_in reader bs) text).reads ≡ Some (i, offset))))
-    (spent : (i : ℕ) → answer ≡ status.ReadFault (read_at.Record i) → ForSome left (λ text. ForSome held (λ bs. Contains (played (stored_in reader bs) text).reads i)))
-    (front : ForSome left (λ text. ForSome held (λ bs. WrotePrefix (played (stored_in reader bs) text).items p0 p1 n0 n1)))
-    (opened : HasAsked tries 4 true false f f1 r r1 o o')
-    (asked : (calls : ℕ) × HasAsked tries calls false (is_read_fault answer) f1 f2 r1 r2 o' o'' × ForSome left (λ text. ForSome held (λ bs. calls ≤ length (played (stored_in reader bs) text).reads)))
-    (script_fault : answer ≡ status.ScriptFault → script_failed)
-    (out_fault : answer ≡ status.OutFault → out_failed) where
-  is_read : (bs : Bytes) → held ≡ Some bs → read bs ≡ Ok (stored_in reader bs)
-  is_read bs told = (of_table held reader graph o1 bs told).reader_is.read
+    × ForSome old.store.held (λ bs. wrong_at (stored_in reader bs).0 i ≡ Some (i, offset))
+    × ForSome old.script.left (λ text. ForSome old.store.held (λ bs. first_wrong (stored_in reader bs).0 (played (stored_in reader bs) text).reads ≡ Some (i, offset))))
+    (spent : (i : ℕ) → answer ≡ status.ReadFault (read_at.Record i) → ForSome old.script.left (λ text. ForSome old.store.held (λ bs. Contains (played (stored_in reader bs) text).reads i)))
+    (front : ForSome old.script.left (λ text. ForSome old.store.held (λ bs. WrotePrefix (played (stored_in reader bs) text).items old.out.parts new.out.parts old.out.notes new.out.notes)))
+    (opened : HasAsked tries 4 true false old.store.faults f1 old.store.reads r1 old.store.outcomes o')
+    (asked : (calls : ℕ) × HasAsked tries calls false (is_read_fault answer) f1 new.store.faults r1 new.store.reads o' new.store.outcomes × ForSome old.script.left (λ text. ForSome old.store.held (λ bs. calls ≤ length (played (stored_in reader bs) text).reads)))
+    (script_fault : answer ≡ status.ScriptFault → Rose old.script.faults new.script.faults)
+    (out_fault : answer ≡ status.OutFault → Rose old.out.faults new.out.faults) where
+  is_read : (bs : Bytes) → old.store.held ≡ Some bs → read bs ≡ Ok (stored_in reader bs)
+  is_read bs told = (of_table old.store.held reader graph o1 bs told).reader_is.read
 
-  all_asked : HasAsked tries (4 + asked.0) false (is_read_fault answer) f f2 r r2 o o''
-  all_asked = asked_both tries 4 asked.0 false false (is_read_fault answer) f f1 f2 r r1 r2 o o' o'' opened asked.1
+  all_asked : HasAsked tries (4 + asked.0) false (is_read_fault answer) old.store.faults new.store.faults old.store.reads new.store.reads old.store.outcomes new.store.outcomes
+  all_asked = asked_both tries 4 asked.0 false false (is_read_fault answer) old.store.faults f1 new.store.faults old.store.reads r1 new.store.reads old.store.outcomes o' new.store.outcomes opened asked.1
 
-  spent_asked : (at : ReadAt) → answer ≡ status.ReadFault at → HasAsked tries (4 + asked.0) false true f f2 r r2 o o''
-  spent_asked at e = subst (λ b. HasAsked tries (4 + asked.0) false b f f2 r r2 o o'') (ap is_read_fault e) all_asked
+  spent_asked : (at : ReadAt) → answer ≡ status.ReadFault at → HasAsked tries (4 + asked.0) false true old.store.faults new.store.faults old.store.reads new.store.reads old.store.outcomes new.store.outcomes
+  spent_asked at e = subst (λ b. HasAsked tries (4 + asked.0) false b old.store.faults new.store.faults old.store.reads new.store.reads old.store.outcomes new.store.outcomes) (ap is_read_fault e) all_asked
 
-  rose : (at : ReadAt) → answer ≡ status.ReadFault at → RoseBy tries f f2
-  rose at e = rose_by tries (4 + asked.0) false f f2 r r2 o o'' (spent_asked at e)
+  rose : (at : ReadAt) → answer ≡ status.ReadFault at → RoseBy tries old.store.faults new.store.faults
+  rose at e = rose_by tries (4 + asked.0) false old.store.faults new.store.faults old.store.reads new.store.reads old.store.outcomes new.store.outcomes (spent_asked at e)
 
-  ends : (text bs : Bytes) → left ≡ Some text → held ≡ Some bs → ¬ script_failed → ¬ (RoseBy tries f f2) → ¬ out_failed → (s : Status) → answer ≡ s → IsOfLines s
+  ends : (text bs : Bytes) → old.script.left ≡ Some text → old.store.held ≡ Some bs → ¬ Rose old.script.faults new.script.faults → ¬ (RoseBy tries old.store.faults new.store.faults) → ¬ Rose old.out.faults new.out.faults → (s : Status) → answer ≡ s → IsOfLines s
       → (s ≡ end_of (lines_of text).bad (first_wrong (stored_in reader bs).0 (played (stored_in reader bs) text).reads)) ⊎ (s ≡ status.Memory)
   ends text bs lt told ns nr na (status.ScriptBad l) e h =
       let b = bad_line l e text lt in
@@ -247,7 +248,7 @@ module _ (tries : ℕ) (left held held' : Option Bytes) (reader : ReaderState) (
   no_head : answer ≡ status.ReadFault read_at.Head → ⊥
   no_head e = subst IsOfLines e is
 
-  pub unfinished_run : held' ≡ held → ReplayRun tries left held held' o'' r r2 untouched script_failed (RoseBy tries f f2) out_failed p0 p1 n0 n1 answer
+  pub unfinished_run : new.store.held ≡ old.store.held → ReplayRun tries old new untouched answer
   unfinished_run same = record {
     ok = λ e. absurd (subst IsOfLines e is);
     refused = λ b e bs told. (let w = bad b e in inr (stored_in reader bs, is_read bs told, w.0, w.1, w.2, w.3 bs told, λ text lt. w.4 text lt bs told));
@@ -267,11 +268,11 @@ module _ (tries : ℕ) (left held held' : Option Bytes) (reader : ReaderState) (
     );
     same = same;
     asked = λ text lt bs told out h.
-        subst (λ (x : Stored). r2 ≤ r + tries * (4 + length (played x text).reads)) (read_alike bs (stored_in reader bs) out (is_read bs told) h)
-        (asked_most tries (4 + asked.0) (4 + length (played (stored_in reader bs) text).reads) _ _ f f2 r r2 o o'' (more asked.0 (length (played (stored_in reader bs) text).reads) (asked.2 text lt bs told)) all_asked);
+        subst (λ (x : Stored). new.store.reads ≤ old.store.reads + tries * (4 + length (played x text).reads)) (read_alike bs (stored_in reader bs) out (is_read bs told) h)
+        (asked_most tries (4 + asked.0) (4 + length (played (stored_in reader bs) text).reads) _ _ old.store.faults new.store.faults old.store.reads new.store.reads old.store.outcomes new.store.outcomes (more asked.0 (length (played (stored_in reader bs) text).reads) (asked.2 text lt bs told)) all_asked);
     asked_refused = λ bs told b h. absurd (read_once bs (stored_in reader bs) b (is_read bs told) h);
     front = λ not_ok text lt bs told out h.
-        subst (λ (x : Stored). WrotePrefix (played x text).items p0 p1 n0 n1) (read_alike bs (stored_in reader bs) out (is_read bs told) h) (front text lt bs told);
+        subst (λ (x : Stored). WrotePrefix (played x text).items old.out.parts new.out.parts old.out.notes new.out.notes) (read_alike bs (stored_in reader bs) out (is_read bs told) h) (front text lt bs told);
     unaccepted = λ bs told b h. absurd (read_once bs (stored_in reader bs) b (is_read bs told) h);
     faithful = λ M params b bs told e.
         let k = faithful M params b bs e in
@@ -302,25 +303,25 @@ count_told n a few = counted_is n a few ∙ from_none (a + n) where
   from_none : (m : ℕ) → min m (2 ^ 64 - 1) ≡ risen m 0
   from_none m = omega arith
 
-module _ (tries : ℕ) (left held held' : Option Bytes) (reader : ReaderState) (graph : GraphState) (o1 : IsOpen held reader graph) (f f1 f2 r r1 r2 : ℕ) (o o' o'' : Option (List Bool)) (untouched script_failed out_failed : Type 0)
-    (p0 p1 p2 : Option (List Bytes)) (n0 n1 n2 : Option Bytes) (answer : Status) (player : Player)
+module _ (tries : ℕ) (old new : Seen) (untouched : Type 0) (reader : ReaderState) (graph : GraphState) (o1 : IsOpen old.store.held reader graph) (f1 r1 : ℕ) (o' : Option (List Bool)) (p1 : Option (List Bytes)) (n1 : Option Bytes)
+    (answer : Status) (player : Player)
     (is : IsGenAnswer answer)
     (few_tries : tries ≤ 100)
-    (whole : ForSome left (λ text. (lines_of text).bad ≡ None))
-    (all : ForSome left (λ text. ForSome held (λ bs. HasPlayed (stored_in reader bs) (played (stored_in reader bs) text) player p0 p1 n0 n1)))
-    (opened : HasCounted tries 4 reader.asked f f1 r r1 o o')
-    (counted : AreCounted reader.asked player.reads r1 r2)
-    (asked : (calls : ℕ) × HasAsked tries calls true false f1 f2 r1 r2 o' o'' × ForSome left (λ text. ForSome held (λ bs. calls ≤ length (played (stored_in reader bs) text).reads)))
-    (noted : answer ≡ status.Ok → Wrote (Note (replay_note player.parts player.reads player.graph.tests) ∷ []) p1 p2 n1 n2)
-    (not_noted : ¬ (answer ≡ status.Ok) → Wrote [] p1 p2 n1 n2)
-    (out_fault : answer ≡ status.OutFault → out_failed) where
-  reads_as : (bs : Bytes) → held ≡ Some bs → read bs ≡ Ok (stored_in reader bs)
-  reads_as bs told = (of_table held reader graph o1 bs told).reader_is.read
+    (whole : ForSome old.script.left (λ text. (lines_of text).bad ≡ None))
+    (all : ForSome old.script.left (λ text. ForSome old.store.held (λ bs. HasPlayed (stored_in reader bs) (played (stored_in reader bs) text) player old.out.parts p1 old.out.notes n1)))
+    (opened : HasCounted tries 4 reader.asked old.store.faults f1 old.store.reads r1 old.store.outcomes o')
+    (counted : AreCounted reader.asked player.reads r1 new.store.reads)
+    (asked : (calls : ℕ) × HasAsked tries calls true false f1 new.store.faults r1 new.store.reads o' new.store.outcomes × ForSome old.script.left (λ text. ForSome old.store.held (λ bs. calls ≤ length (played (stored_in reader bs) text).reads)))
+    (noted : answer ≡ status.Ok → Wrote (Note (replay_note player.parts player.reads player.graph.tests) ∷ []) p1 new.out.parts n1 new.out.notes)
+    (not_noted : ¬ (answer ≡ status.Ok) → Wrote [] p1 new.out.parts n1 new.out.notes)
+    (out_fault : answer ≡ status.OutFault → Rose old.out.faults new.out.faults) where
+  reads_as : (bs : Bytes) → old.store.held ≡ Some bs → read bs ≡ Ok (stored_in reader bs)
+  reads_as bs told = (of_table old.store.held reader graph o1 bs told).reader_is.read
 
   other_than : (other : Status) → (status.Ok ≡ other → ⊥) → (status.OutFault ≡ other → ⊥) → (status.Memory ≡ other → ⊥) → answer ≡ other → ⊥
   other_than other x y z e = never answer other is x y z e
 
-  opened_asked : HasAsked tries 4 true false f f1 r r1 o o'
+  opened_asked : HasAsked tries 4 true false old.store.faults f1 old.store.reads r1 old.store.outcomes o'
   opened_asked = record {
     answers = opened.answers;
     asked = opened.asked;
@@ -332,10 +333,10 @@ module _ (tries : ℕ) (left held held' : Option Bytes) (reader : ReaderState) (
       apart : ◌≡◌ {A = Bool} false true → ⊥
       apart e = cc
 
-  whole_asked : HasAsked tries (4 + asked.0) true false f f2 r r2 o o''
-  whole_asked = asked_both tries 4 asked.0 false true false f f1 f2 r r1 r2 o o' o'' opened_asked asked.1
+  whole_asked : HasAsked tries (4 + asked.0) true false old.store.faults new.store.faults old.store.reads new.store.reads old.store.outcomes new.store.outcomes
+  whole_asked = asked_both tries 4 asked.0 false true false old.store.faults f1 new.store.faults old.store.reads r1 new.store.reads old.store.outcomes o' new.store.outcomes opened_asked asked.1
 
-  replayed : answer ≡ status.Ok → (text : Bytes) → left ≡ Some text → (bs : Bytes) → held ≡ Some bs → HasReplayed (stored_in reader bs) text r r2 p0 p2 n0 n2
+  replayed : answer ≡ status.Ok → (text : Bytes) → old.script.left ≡ Some text → (bs : Bytes) → old.store.held ≡ Some bs → HasReplayed (stored_in reader bs) text old.store.reads new.store.reads old.out.parts new.out.parts old.out.notes new.out.notes
   replayed e text lt bs told =
       let out = stored_in reader bs in
       let h = all text lt bs told in
@@ -350,13 +351,13 @@ module _ (tries : ℕ) (left held held' : Option Bytes) (reader : ReaderState) (
         right = h.right;
         asked = reader.asked + counted.number;
         counted = omega (arith, a, b, c);
-        wrote = wrote_both (played out text).items (Note (replay_note (length (played out text).items) (risen (reader.asked + counted.number) 0) (tests_of out (played out text))) ∷ []) p0 p1 p2 n0 n1 n2 h.wrote
-            (subst (λ x. Wrote (Note (replay_note (length (played out text).items) x (tests_of out (played out text))) ∷ []) p1 p2 n1 n2) told_reads
-            (subst (λ x. Wrote (Note (replay_note x player.reads (tests_of out (played out text))) ∷ []) p1 p2 n1 n2) h.playing.parts
-            (subst (λ x. Wrote (Note (replay_note player.parts player.reads x) ∷ []) p1 p2 n1 n2) h.playing.tests (noted e))));
+        wrote = wrote_both (played out text).items (Note (replay_note (length (played out text).items) (risen (reader.asked + counted.number) 0) (tests_of out (played out text))) ∷ []) old.out.parts p1 new.out.parts old.out.notes n1 new.out.notes h.wrote
+            (subst (λ x. Wrote (Note (replay_note (length (played out text).items) x (tests_of out (played out text))) ∷ []) p1 new.out.parts n1 new.out.notes) told_reads
+            (subst (λ x. Wrote (Note (replay_note x player.reads (tests_of out (played out text))) ∷ []) p1 new.out.parts n1 new.out.notes) h.playing.parts
+            (subst (λ x. Wrote (Note (replay_note player.parts player.reads x) ∷ []) p1 new.out.parts n1 new.out.notes) h.playing.tests (noted e))));
       }
 
-  pub finished_run : held' ≡ held → ReplayRun tries left held held' o'' r r2 untouched script_failed (RoseBy tries f f2) out_failed p0 p2 n0 n2 answer
+  pub finished_run : new.store.held ≡ old.store.held → ReplayRun tries old new untouched answer
   finished_run same = record {
     ok = λ e text lt bs told. (stored_in reader bs, reads_as bs told, replayed e text lt bs told);
     refused = λ b e. absurd (other_than (status.BadStore b) (λ h. cc) (λ h. cc) (λ h. cc) e);
@@ -376,13 +377,13 @@ module _ (tries : ℕ) (left held held' : Option Bytes) (reader : ReaderState) (
     );
     same = same;
     asked = λ text lt bs told out h.
-        subst (λ (x : Stored). r2 ≤ r + tries * (4 + length (played x text).reads)) (read_alike bs (stored_in reader bs) out (reads_as bs told) h)
-        (asked_most tries (4 + asked.0) (4 + length (played (stored_in reader bs) text).reads) _ _ f f2 r r2 o o'' (four_more asked.0 (length (played (stored_in reader bs) text).reads) (asked.2 text lt bs told)) whole_asked);
+        subst (λ (x : Stored). new.store.reads ≤ old.store.reads + tries * (4 + length (played x text).reads)) (read_alike bs (stored_in reader bs) out (reads_as bs told) h)
+        (asked_most tries (4 + asked.0) (4 + length (played (stored_in reader bs) text).reads) _ _ old.store.faults new.store.faults old.store.reads new.store.reads old.store.outcomes new.store.outcomes (four_more asked.0 (length (played (stored_in reader bs) text).reads) (asked.2 text lt bs told)) whole_asked);
     asked_refused = λ bs told b h. absurd (read_once bs (stored_in reader bs) b (reads_as bs told) h);
     front = λ not_ok text lt bs told out h.
-        subst (λ (x : Stored). WrotePrefix (played x text).items p0 p2 n0 n2) (read_alike bs (stored_in reader bs) out (reads_as bs told) h)
-        (wrote_front (played (stored_in reader bs) text).items [] (played (stored_in reader bs) text).items p0 p2 n0 n2 (sym (append-nil (played (stored_in reader bs) text).items))
-        (wrote_none (played (stored_in reader bs) text).items p0 p1 p2 n0 n1 n2 (all text lt bs told).wrote (not_noted not_ok)));
+        subst (λ (x : Stored). WrotePrefix (played x text).items old.out.parts new.out.parts old.out.notes new.out.notes) (read_alike bs (stored_in reader bs) out (reads_as bs told) h)
+        (wrote_front (played (stored_in reader bs) text).items [] (played (stored_in reader bs) text).items old.out.parts new.out.parts old.out.notes new.out.notes (sym (append-nil (played (stored_in reader bs) text).items))
+        (wrote_none (played (stored_in reader bs) text).items old.out.parts p1 new.out.parts old.out.notes n1 new.out.notes (all text lt bs told).wrote (not_noted not_ok)));
     unaccepted = λ bs told b h. absurd (read_once bs (stored_in reader bs) b (reads_as bs told) h);
     faithful = λ M params b bs told e. (faithful M params b bs e, λ x at. other_than (status.BadStore x) (λ h. cc) (λ h. cc) (λ h. cc) at);
     conforming = λ bs told out h. cuts_conform bs out h;
@@ -418,9 +419,8 @@ pub note_of_replay : (s : Status) → (s ≡ status.OutFault) ⊎ (s ≡ status.
 note_of_replay s is = elim is [ inl e ↦ subst IsOfReplay (sym e) tt | inr e ↦ subst IsOfReplay (sym e) tt ]
 
 -- memory ran out before a device was touched
-pub replay_unstarted : (tries : ℕ) (left held : Option Bytes) (outcomes : Option (List Bool)) (reads : ℕ) (untouched script_failed read_failed out_failed : Type 0) (p : Option (List Bytes)) (n : Option Bytes)
-    → untouched → ReplayRun tries left held held outcomes reads reads untouched script_failed read_failed out_failed p p n n status.Memory
-replay_unstarted tries left held outcomes reads untouched script_failed read_failed out_failed p n still = record {
+pub replay_unstarted : (tries : ℕ) (s : Seen) (untouched : Type 0) → untouched → ReplayRun tries s s untouched status.Memory
+replay_unstarted tries s untouched still = record {
   ok = λ e. absurd cc;
   refused = λ b e. absurd cc;
   bad_line = λ l e. absurd cc;
@@ -432,8 +432,8 @@ replay_unstarted tries left held outcomes reads untouched script_failed read_fai
   same = refl;
   asked = λ text _ bs told out h. omega arith;
   asked_refused = λ bs told b h. omega arith;
-  front = λ not_ok text _ bs told out h. none_yet _ p p n n refl refl;
-  unaccepted = λ bs told b h. nothing p p n n refl refl;
+  front = λ not_ok text _ bs told out h. none_yet _ s.out.parts s.out.parts s.out.notes s.out.notes refl refl;
+  unaccepted = λ bs told b h. nothing s.out.parts s.out.parts s.out.notes s.out.notes refl refl;
   faithful = λ M params b bs told e. (faithful M params b bs e, λ x at. cc);
   conforming = λ bs told out h. cuts_conform bs out h;
 }

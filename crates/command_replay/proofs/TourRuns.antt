@@ -1,5 +1,5 @@
 -- What holds of a tour, by its build and its replay.
-use Rattle.std.proofs.Common.{◌≡◌, ◌⊎◌, ℕ, ◌≤◌, ◌<◌, length, Bool, List, [], refl, sym, ◌∙◌, ap, inl, inr, arith, Option, Some, None}
+use Rattle.std.proofs.Common.{◌≡◌, ◌⊎◌, ℕ, ◌≤◌, ◌<◌, length, List, [], refl, sym, ◌∙◌, ap, inl, inr, arith, Option, Some, None}
 use Rattle.std.specs.Prelude.{Ok, Err}
 use Rattle.std.specs.Option.{ForSome}
 use Rattle.tpz_base.specs.Cubes.{Row}
@@ -27,12 +27,11 @@ use Rattle.command_build.specs.BuildRuns.{BuildRun}
 use Rattle.command_replay.specs.ReplayRuns.{ReplayRun, TourRun}
 use Rattle.command_build.proofs.BuildRuns.{build_unstarted}
 use Rattle.mesh_output.proofs.Exports.{nothing}
+use Rattle.run_record.specs.Seen.{BlobSeen, OutSeen, Seen, Untouched}
 
 -- a build that is Ok, whatever wasn't touched
-pub build_other : (digits : Option ℕ) (cap budget : ℕ) (left worked held held' : Option Bytes) (reads reads' : ℕ) (u v input_failed work_failed store_failed out_failed : Type 0) (p0 p1 : Option (List Bytes)) (n0 n1 : Option Bytes) (answer : Status)
-    → answer ≡ status.Ok → BuildRun digits cap budget left worked held held' reads reads' u input_failed work_failed store_failed out_failed p0 p1 n0 n1 answer
-    → BuildRun digits cap budget left worked held held' reads reads' v input_failed work_failed store_failed out_failed p0 p1 n0 n1 answer
-build_other digits cap budget left worked held held' reads reads' u v input_failed work_failed store_failed out_failed p0 p1 n0 n1 answer is h = record {
+pub build_other : (digits : Option ℕ) (cap budget : ℕ) (old new : Seen) (u v : Type 0) (answer : Status) → answer ≡ status.Ok → BuildRun digits cap budget old new u answer → BuildRun digits cap budget old new v answer
+build_other digits cap budget old new u v answer is h = record {
   ok = h.ok;
   whole = h.whole;
   buildable = h.buildable;
@@ -55,10 +54,8 @@ build_other digits cap budget left worked held held' reads reads' u v input_fail
 }
 
 -- a replay, where less is said to be untouched
-pub replay_other : (tries : ℕ) (left held held' : Option Bytes) (outcomes : Option (List Bool)) (reads reads' : ℕ) (u v script_failed read_failed out_failed : Type 0) (p0 p1 : Option (List Bytes)) (n0 n1 : Option Bytes) (answer : Status)
-    → (u → v) → ReplayRun tries left held held' outcomes reads reads' u script_failed read_failed out_failed p0 p1 n0 n1 answer
-    → ReplayRun tries left held held' outcomes reads reads' v script_failed read_failed out_failed p0 p1 n0 n1 answer
-replay_other tries left held held' outcomes reads reads' u v script_failed read_failed out_failed p0 p1 n0 n1 answer less h = record {
+pub replay_other : (tries : ℕ) (old new : Seen) (u v : Type 0) (answer : Status) → (u → v) → ReplayRun tries old new u answer → ReplayRun tries old new v answer
+replay_other tries old new u v answer less h = record {
   ok = h.ok;
   refused = h.refused;
   bad_line = h.bad_line;
@@ -76,19 +73,14 @@ replay_other tries left held held' outcomes reads reads' u v script_failed read_
   conforming = h.conforming;
 }
 
-pub tour_unstarted : (digits : Option ℕ) (cap budget tries : ℕ) (left lines worked held : Option Bytes) (outcomes : Option (List Bool)) (reads faults out_faults : ℕ) (untouched script_untouched input_failed work_failed script_failed : Type 0)
-    (p : Option (List Bytes)) (n : Option Bytes) → script_untouched
-    → TourRun digits cap budget tries left lines worked held held outcomes reads reads faults faults out_faults out_faults untouched script_untouched input_failed work_failed script_failed p p n n status.Memory
-tour_unstarted digits cap budget tries left lines worked held outcomes reads faults out_faults untouched script_untouched input_failed work_failed script_failed p n still = record {
+-- memory ran out before a device was touched
+pub tour_unstarted : (digits : Option ℕ) (cap budget tries : ℕ) (s : Seen) (untouched : Untouched) → untouched.script → TourRun digits cap budget tries s s untouched status.Memory
+tour_unstarted digits cap budget tries s untouched still = record {
   built = status.Memory;
-  stored = held;
-  asked = reads;
-  failed = faults;
-  out_failed = out_faults;
-  parts = p;
-  notes = n;
-  build = build_unstarted digits cap budget _ _ _ _ _ _ _ _ _ _ _;
-  ended = λ e. (refl, still, refl, refl, nothing p p n n refl refl);
+  middle = s;
+  others = (refl, refl, refl);
+  build = build_unstarted digits cap budget s _;
+  ended = λ e. (refl, still, refl, refl, nothing _ _ _ _ refl refl);
   replay = λ e. absurd cc;
   faithful = λ e. absurd cc;
   complete = λ bytes at holds keeps store stored text told none a b c d e f. (λ rows faces means. (λ fits. inr refl, λ past. inr refl), λ r is. inr refl);
@@ -127,40 +119,42 @@ refused_not_ok (InBody (body.WorkDamage offset)) e = cc
 
 -- ---- a build, and where it is Ok a replay
 
-module _ (digits : Option ℕ) (cap budget tries : ℕ) (left lines worked held held' : Option Bytes) (outcomes : Option (List Bool)) (reads reads' faults faults' out_faults out_faults' : ℕ)
-    (untouched script_untouched input_failed work_failed script_failed : Type 0) (p0 p2 : Option (List Bytes)) (n0 n2 : Option Bytes) (answer built : Status)
-    (stored : Option Bytes) (asked failed out_failed : ℕ) (parts : Option (List Bytes)) (notes : Option Bytes)
-    (build : BuildRun digits cap budget left worked held stored reads asked untouched input_failed work_failed (Rose faults failed) (Rose out_faults out_failed) p0 parts n0 notes built)
-    (ended : ¬ (built ≡ status.Ok) → (answer ≡ built) × script_untouched × (held' ≡ stored) × (reads' ≡ asked) × Wrote [] parts p2 notes n2)
-    (replay : built ≡ status.Ok → ReplayRun tries lines stored held' outcomes asked reads' script_untouched script_failed (RoseBy tries failed faults') (Rose out_failed out_faults') parts p2 notes n2 answer)
-    (first : out_faults ≤ out_failed) (second : out_failed ≤ out_faults') where
-  faithful : built ≡ status.Ok → ForSome left (λ bytes. ForSome worked (λ _. (rows : List Row) (faces : List Face) → input_for digits bytes ≡ Ok (record { rows = rows; faces = faces })
-      → ForSome stored (λ store. IsFaithful (mesh_of rows faces) (params_of cap budget (digits_of digits bytes) rows faces) store × ((bad : StoreBad) → answer ≡ status.BadStore bad → ⊥))))
-  faithful ok bytes at holds keeps rows faces means store told =
-      (replay ok).faithful (mesh_of rows faces) (params_of cap budget (digits_of digits bytes) rows faces) (build.buildable (inl ok) bytes at holds keeps rows faces means) store told
-      (build.whole (inl ok) bytes at holds keeps rows faces means store told)
+-- what the devices say where a build has ended and a replay begins: it touches neither input nor work file, and the build no script
+abbrev between : Seen → Seen → BlobSeen → OutSeen → Seen
+between old new store out = record { input = new.input; script = old.script; work = new.work; store = store; out = out }
+
+module _ (digits : Option ℕ) (cap budget tries : ℕ) (old new : Seen) (store : BlobSeen) (out : OutSeen) (untouched : Untouched) (answer built : Status)
+    (build : BuildRun digits cap budget old (between old new store out) (untouched.input × untouched.work × untouched.out) built)
+    (ended : ¬ (built ≡ status.Ok) → (answer ≡ built) × untouched.script × (new.store.held ≡ store.held) × (new.store.reads ≡ store.reads) × Wrote [] out.parts new.out.parts out.notes new.out.notes)
+    (replay : built ≡ status.Ok → ReplayRun tries (between old new store out) new untouched.script answer)
+    (first : old.out.faults ≤ out.faults) (second : out.faults ≤ new.out.faults) where
+  faithful : built ≡ status.Ok → ForSome old.input.left (λ bytes. ForSome old.work.held (λ _. (rows : List Row) (faces : List Face) → input_for digits bytes ≡ Ok (record { rows = rows; faces = faces })
+      → ForSome store.held (λ kept. IsFaithful (mesh_of rows faces) (params_of cap budget (digits_of digits bytes) rows faces) kept × ((bad : StoreBad) → answer ≡ status.BadStore bad → ⊥))))
+  faithful ok bytes at holds keeps rows faces means kept told =
+      (replay ok).faithful (mesh_of rows faces) (params_of cap budget (digits_of digits bytes) rows faces) (build.buildable (inl ok) bytes at holds keeps rows faces means) kept told
+      (build.whole (inl ok) bytes at holds keeps rows faces means kept told)
 
   -- another answer of the build is that of all
   as_built : (other : Status) → built ≡ other → (other ≡ status.Ok → ⊥) → answer ≡ other
   as_built other is isnt = (ended (λ e. isnt (sym is ∙ e))).0 ∙ is
 
-  module _ (bytes : Bytes) (at : left ≡ Some bytes) (holds : Bytes) (keeps : worked ≡ Some holds) (store : Bytes) (told : held ≡ Some store) (text : Bytes) (script : lines ≡ Some text)
-      (none : length store ≡ 0) (no_input : ¬ input_failed) (no_work : ¬ work_failed) (no_script : ¬ script_failed) (no_store : ¬ Rose faults failed) (no_read : ¬ RoseBy tries failed faults')
-      (no_out : ¬ Rose out_faults out_faults') where
+  module _ (bytes : Bytes) (at : old.input.left ≡ Some bytes) (holds : Bytes) (keeps : old.work.held ≡ Some holds) (empty : Bytes) (told : old.store.held ≡ Some empty) (text : Bytes) (script : old.script.left ≡ Some text)
+      (none : length empty ≡ 0) (no_input : ¬ Rose old.input.faults new.input.faults) (no_work : ¬ Rose old.work.faults new.work.faults) (no_script : ¬ Rose old.script.faults new.script.faults) (no_store : ¬ Rose old.store.faults store.faults) (no_read : ¬ RoseBy tries store.faults new.store.faults)
+      (no_out : ¬ Rose old.out.faults new.out.faults) where
     built_answers : ((rows : List Row) (faces : List Face) → input_for digits bytes ≡ Ok (record { rows = rows; faces = faces })
         → (length (finest_split (Some cap) rows faces) ≤ most_centres → (built ≡ status.Ok) ⊎ (built ≡ status.Memory))
         × (most_centres < length (finest_split (Some cap) rows faces) → (built ≡ status.TooManyRecords) ⊎ (built ≡ status.Memory)))
         × ((r : Refusal) → input_for digits bytes ≡ Err r → (built ≡ status_of r) ⊎ (built ≡ status.Memory))
-    built_answers = build.complete bytes at holds keeps store told none no_input no_work no_store (λ f. no_out (rose_front out_faults out_failed out_faults' f second))
+    built_answers = build.complete bytes at holds keeps empty told none no_input no_work no_store (λ f. no_out (rose_front old.out.faults out.faults new.out.faults f second))
 
     replayed : built ≡ status.Ok → (rows : List Row) (faces : List Face) → input_for digits bytes ≡ Ok (record { rows = rows; faces = faces })
         → (answer ≡ end_of (lines_of text).bad None) ⊎ (answer ≡ status.Memory)
     replayed ok rows faces means =
-        let (now, is) = told_later held stored store build.telling told in
+        let (now, is) = told_later old.store.held store.held empty build.telling told in
         let right = (faithful ok bytes at holds keeps rows faces means now is).0 in
-        let out : Stored = (table (mesh_of rows faces) (params_of cap budget (digits_of digits bytes) rows faces), params_of cap budget (digits_of digits bytes) rows faces) in
-        elim (((replay ok).complete text script now is no_script no_read (λ f. no_out (rose_behind out_faults out_failed out_faults' f first))).1 out right.reads) [
-          | inl e ↦ inl (e ∙ ap (end_of (lines_of text).bad) (right.right (played out text).reads))
+        let stored : Stored = (table (mesh_of rows faces) (params_of cap budget (digits_of digits bytes) rows faces), params_of cap budget (digits_of digits bytes) rows faces) in
+        elim (((replay ok).complete text script now is no_script no_read (λ f. no_out (rose_behind old.out.faults out.faults new.out.faults f first))).1 stored right.reads) [
+          | inl e ↦ inl (e ∙ ap (end_of (lines_of text).bad) (right.right (played stored text).reads))
           | inr e ↦ inr e
         ]
 
@@ -176,15 +170,11 @@ module _ (digits : Option ℕ) (cap budget tries : ℕ) (left lines worked held 
       λ r is. elim (built_answers.1 r is) [ inl e ↦ inl (as_built (status_of r) e (refused_not_ok r)) | inr e ↦ inr (as_built status.Memory e (λ f. cc)) ],
     )
 
-  pub tour_run : TourRun digits cap budget tries left lines worked held held' outcomes reads reads' faults faults' out_faults out_faults' untouched script_untouched input_failed work_failed script_failed p0 p2 n0 n2 answer
+  pub tour_run : TourRun digits cap budget tries old new untouched answer
   tour_run = record {
     built = built;
-    stored = stored;
-    asked = asked;
-    failed = failed;
-    out_failed = out_failed;
-    parts = parts;
-    notes = notes;
+    middle = between old new store out;
+    others = (refl, refl, refl);
     build = build;
     ended = ended;
     replay = replay;

@@ -23,6 +23,7 @@ ghost use Rattle.command_replay.specs.Playing.{HasPlayed, IsPlaying, IsReady};
 ghost use Rattle.cut_blocks.specs.Shown.{is_unread, stored_in, AreCounted};
 ghost use Rattle.run_status.specs.Statuses.{IsOfLines, IsOfReplay};
 ghost use Rattle.command_replay.specs.ReplayRuns.{ReplayRun};
+ghost use Rattle.run_record.specs.Seen.{BlobSeen, SourceSeen};
 
 use cut_blocks::{read_cut, views_of};
 use cut_export::write_mesh;
@@ -257,9 +258,12 @@ pub fn run_replay<C: Source, S: Blob, O: Out>(
 ) -> Status
     requires some { 1 ≤ tries }
     requires few { tries ≤ 100 }
-    ensures run { ReplayRun tries (C.left script.old) (S.held store.old) (S.held store.new) (S.outcomes store.new) (S.reads store.old) (S.reads store.new)
-        ((script.new ≡ script.old) × (out.new ≡ out.old)) (Rose (C.faults script.old) (C.faults script.new)) (RoseBy tries (S.faults store.old) (S.faults store.new)) (Rose (O.faults out.old) (O.faults out.new))
-        (O.parts out.old) (O.parts out.new) (O.notes out.old) (O.notes out.new) result }
+    ensures run { (input input' : SourceSeen) (work work' : BlobSeen) → ReplayRun tries
+        (record { input = input; script = record { left = C.left script.old; faults = C.faults script.old }; work = work; store = record { held = S.held store.old; reads = S.reads store.old; outcomes = S.outcomes store.old; faults = S.faults store.old };
+            out = record { parts = O.parts out.old; notes = O.notes out.old; faults = O.faults out.old } })
+        (record { input = input'; script = record { left = C.left script.new; faults = C.faults script.new }; work = work'; store = record { held = S.held store.new; reads = S.reads store.new; outcomes = S.outcomes store.new; faults = S.faults store.new };
+            out = record { parts = O.parts out.new; notes = O.notes out.new; faults = O.faults out.new } })
+        ((script.new ≡ script.old) × (out.new ≡ out.old)) result }
     ensures status { IsOfReplay result }
     ensures script_fault { result ≡ Status.ScriptFault → Rose (C.faults script.old) (C.faults script.new) }
     ensures out_fault { result ≡ Status.OutFault → Rose (O.faults out.old) (O.faults out.new) }

@@ -29,11 +29,12 @@ pub fn run_tour<I: Source, C: Source, W: Blob, S: Blob, O: Out>(
     requires most_budget { plan.budget ≤ 4194304 }
     requires some { 1 ≤ tries }
     requires few { tries ≤ 100 }
-    ensures run { TourRun plan.digits plan.cap plan.budget tries (I.left input.old) (C.left script.old) (W.held work.old) (S.held store.old) (S.held store.new) (S.outcomes store.new)
-        (S.reads store.old) (S.reads store.new) (S.faults store.old) (S.faults store.new) (O.faults out.old) (O.faults out.new)
-        ((input.new ≡ input.old) × (work.new ≡ work.old) × (out.new ≡ out.old)) (script.new ≡ script.old)
-        (Rose (I.faults input.old) (I.faults input.new)) (Rose (W.faults work.old) (W.faults work.new)) (Rose (C.faults script.old) (C.faults script.new))
-        (O.parts out.old) (O.parts out.new) (O.notes out.old) (O.notes out.new) result }
+    ensures run { TourRun plan.digits plan.cap plan.budget tries
+        (record { input = record { left = I.left input.old; faults = I.faults input.old }; script = record { left = C.left script.old; faults = C.faults script.old }; work = record { held = W.held work.old; reads = W.reads work.old; outcomes = W.outcomes work.old; faults = W.faults work.old }; store = record { held = S.held store.old; reads = S.reads store.old; outcomes = S.outcomes store.old; faults = S.faults store.old };
+            out = record { parts = O.parts out.old; notes = O.notes out.old; faults = O.faults out.old } })
+        (record { input = record { left = I.left input.new; faults = I.faults input.new }; script = record { left = C.left script.new; faults = C.faults script.new }; work = record { held = W.held work.new; reads = W.reads work.new; outcomes = W.outcomes work.new; faults = W.faults work.new }; store = record { held = S.held store.new; reads = S.reads store.new; outcomes = S.outcomes store.new; faults = S.faults store.new };
+            out = record { parts = O.parts out.new; notes = O.notes out.new; faults = O.faults out.new } })
+        (record { input = input.new ≡ input.old; script = script.new ≡ script.old; work = work.new ≡ work.old; store = store.new ≡ store.old; out = out.new ≡ out.old }) result }
     ensures asked { ¬ (result ≡ Status.Usage) }
     ensures input_fault { result ≡ Status.InputFault → Rose (I.faults input.old) (I.faults input.new) }
     ensures script_fault { result ≡ Status.ScriptFault → Rose (C.faults script.old) (C.faults script.new) }
