@@ -33,7 +33,7 @@ use Rattle.split_pass.specs.Spread.{AllBelow, HoldsThrough, IsBelow, IsChildName
 use Rattle.split_pass.proofs.Crowding.{left_child, named_diamond, right_child}
 use Rattle.split_pass.proofs.CrowdLaw.{first_goes, goes_on, second_goes, Goes}
 
-one_of : {X : Type 0} (o : Option X) (x y : X) → o ≡ Some x → o ≡ Some y → x ≡ y
+pub one_of : {X : Type 0} (o : Option X) (x y : X) → o ≡ Some x → o ≡ Some y → x ≡ y
 one_of None x y e f = absurd cc
 one_of (Some z) x y e f = cc
 
@@ -42,7 +42,7 @@ no_some None x e f = cc
 no_some (Some z) x e f = cc
 
 -- no element passes
-no_more : (M : Mesh) (p : Tri → Bool) → ((t : Tri) → Contains M t → p t ≡ false) → filter p M ≡ []
+pub no_more : (M : Mesh) (p : Tri → Bool) → ((t : Tri) → Contains M t → p t ≡ false) → filter p M ≡ []
 no_more [] p none = refl
 no_more (t ∷ M) p none = rw (none t (member-contains (t ∷ M) t (inl refl))) (no_more M p (λ x among. none x (member-contains (t ∷ M) x (inr (contains-member M x among)))))
 

@@ -9,3 +9,6 @@ mod Searching
 mod Settling
 mod RootNames
 mod Leaving
+mod Waiting
+mod Lifting
+mod Parting
