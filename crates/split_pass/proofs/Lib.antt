@@ -12,3 +12,4 @@ mod Leaving
 mod Waiting
 mod Lifting
 mod Parting
+mod Sorting

@@ -40,6 +40,23 @@ others_then id s0 s1 s2 h0 h1 h2 a b = record {
   cursors = λ at ne f. b.cursors at ne (a.cursors at f);
 }
 
+-- a table stays keyed where all streams are left
+pub still_keyed : (m : LeafTable) (s s' : StreamsState) (h h' : Option (List ℕ)) → LeavesAll s s' h h' → IsKeyed m s → IsKeyed m s'
+still_keyed m s s' h h' all k = record {
+  live = λ name id is. live_as_before s s' id (all.counts id) (k.live name id is);
+  one = k.one;
+  only = λ x lives. k.only x (live_as_before s' s x (sym (all.counts x)) lives);
+}
+
+-- the names that are left are below what is split
+pub left_below : (L : ℕ) (F : List Point) (name : Tet) (m : LeafTable) → AllBelow L F m → AllBelow L F (remove m name)
+left_below L F name m all = λ other x here. all other x (left_over m name other x here).1
+
+-- the end of a stream takes as many from the total as its triangles
+pub total_left : (s0 s1 s2 : StreamsState) (id : StreamId) (n : ℕ) (h0 h1 : Option (List ℕ)) → count_of s0 id ≡ Some n → LeavesAll s0 s1 h0 h1
+    → ForSome (count_of s1 id) (λ k. total s2 + k ≡ total s1) → total s2 + n ≡ total s0
+total_left s0 s1 s2 id n h0 h1 is all left = left n (all.counts id ∙ is) ∙ all.total
+
 as_known : (h h' : Option (List ℕ)) → is_some h' ≡ is_some h → (bytes : List ℕ) × (h ≡ Some bytes) → IsSome h'
 as_known h h' same told = same ∙ ap is_some told.1
 
