@@ -1,6 +1,6 @@
 -- Triangles of a list that pass a test are put to the front of a list, one after another.
-use Rattle.std.proofs.Common.{◌≡◌, ℕ, ◌++◌, ◌∷◌, ◌+◌, ◌<◌, ◌≤◌, [], List, Bool, true, false, cond, not, length, get_or, refl, sym, ◌∙◌, ap, arith, append-nil}
-use Rattle.std.specs.Prelude.{drop, filter, slice_set, take, All}
+use Rattle.std.proofs.Common.{◌≡◌, ℕ, ◌++◌, ◌∷◌, ◌+◌, ◌<◌, ◌≤◌, [], List, Bool, true, false, cond, length, get_or, refl, sym, ◌∙◌, ap, arith, append-nil}
+use Rattle.std.specs.Prelude.{not, drop, filter, slice_set, take, All}
 use Rattle.std.proofs.lemmas.List.{take_more_set, take_at, drop_at}
 use Rattle.std.proofs.lemmas.List.Elements.{All-append, All-drop, All-filter, All-take, filter_more}
 use Rattle.std.proofs.lemmas.List.Filters.{length-filter_both}

@@ -85,13 +85,11 @@ taken L M name id T m s s' h h' here k is back telling holds = record { known = 
         ]
 
     other : (t : Tri) → Contains M t → GoesBy L t name → IsNamed L (remove m name) t → ⊥
-    unfolding before
     other t among g p =
         (left_over m name p.name p.id p.here).0
         (holds.once t among (before t p) (record { name = name; id = id; T = g.T; here = here; is = g.is; through = g.through }))
 
     once : (t : Tri) → Contains M t → IsOnce L t (remove m name) (name ∷ [])
-    unfolding before
     once t among = (λ g. (other t among g, λ none. none), λ p q. holds.once t among (before t p) (before t q))
 
 -- the triangles of a tetrahedron that waits are divided among its two children
