@@ -11,7 +11,7 @@ use Rattle.split_pass.proofs.Lifting.{others_both, others_same, put_more}
 use Rattle.split_pass.proofs.lift.append_all.Goals as goal
 
 -- where an item is past the end
-no_tri : Tri
+abbrev no_tri : Tri
 no_tri = record { a = record { x = 0; y = 0; z = 0 }; b = record { x = 0; y = 0; z = 0 }; c = record { x = 0; y = 0; z = 0 } }
 
 pub triangles-init : goal.triangles-init

@@ -1,5 +1,5 @@
 -- The tetrahedron's diamond is added, and then those below its two children, by the triangles of each.
-use Rattle.std.proofs.Common.{◌≡◌, ◌≤◌, ◌<◌, ◌+◌, ◌-◌, ◌*◌, ◌∷◌, ◌++◌, ◌∙◌, suc, Err, Some, refl, arith, length, sym, ap, subst, inl, inr, ◌⊎◌}
+use Rattle.std.proofs.Common.{rules, ◌≡◌, ◌≤◌, ◌<◌, ◌+◌, ◌-◌, ◌*◌, ◌∷◌, ◌++◌, ◌∙◌, suc, Err, Some, refl, arith, length, sym, ap, subst, inl, inr, ◌⊎◌}
 use Rattle.std.specs.Prelude.{All, take, drop}
 use Rattle.std.proofs.lemmas.Result.{err_from_is_err_and, on_ok_weaker}
 use Rattle.tpz_base.specs.Diamonds.{level_of}
@@ -17,6 +17,7 @@ use Rattle.split_pass.proofs.Searching.{added_here, added_part, further_below, l
 use Rattle.split_pass.proofs.Sorting.{back_through, by_list, first_below, front_through, much_list, second_below}
 use Rattle.split_pass.proofs.Waiting.{divided}
 use Rattle.split_pass.proofs.sort.+sort.Goals as goal
+use Rattle.split_pass.proofs.sort.+sort.Goals.{then-list-cap-via-then-list-cap, then-list-cap-via-else-list-cap+then-level-l}
 
 pub returns-in_err-add_closed-clause-too_many : goal.returns-in_err-add_closed-clause-too_many
 returns-in_err-add_closed-clause-too_many g t c = λ e. λ T is V set.
@@ -27,19 +28,63 @@ returns-in_err-add_closed-clause-too_many g t c = λ e. λ T is V set.
     let much = rw c.requires.l at (c.add_closed.ensures.too_many (c.in_err-add_closed.was ∙ ap Err fault)) in
     too_many_here l n c.args.cap T c.args.list.now V c.args.closing.now.set (point_of c.args.name.centre) set (named_diamond l c.args.name T is) (omega arith) (omega arith) much
 
-pub sort-requires-clause-held : goal.sort-requires-clause-held
-sort-requires-clause-held g t c =
+pub returns-then-list-cap-clause-below : goal.returns-then-list-cap-clause-below
+returns-then-list-cap-clause-below g t c =
+    on_ok_weaker c.put_down.result (λ f. λ T is below all. f c.args.l c.args.closing.now.set T is below all) c.put_down.ensures.below
+
+pub returns-then-list-cap-clause-holds : goal.returns-then-list-cap-clause-holds
+returns-then-list-cap-clause-holds g t c =
+    on_ok_weaker c.put_down.result (λ f. λ M T others is all w. f c.args.l M T others is all w) c.put_down.ensures.holds
+
+pub returns-then-list-cap-clause-found : goal.returns-then-list-cap-clause-found
+returns-then-list-cap-clause-found g t c =
+    on_ok_weaker c.put_down.result
+    (λ f. λ T is V set.
+    let l = c.args.l in
+    let n = 3 * l - level_of l (point_of c.args.name.centre) in
+    let why : (length c.args.list.now ≤ c.args.cap) ⊎ (n ≡ 0) =
+    elim c.then-list-cap.branch [
+      | then-list-cap-via-then-list-cap w ↦ inl (omega arith)
+      | then-list-cap-via-else-list-cap+then-level-l w ↦ inr (omega arith)
+    ]
+    in
+    set ∙ ap (closure l) (sym (with_none n c.args.cap T c.args.list.now V why))) c.put_down.ensures.keyed
+
+pub sort-requires : goal.sort-requires
+sort-requires g t c =
     let l = c.args.l in
     let p = placed l c.args.name c.requires.bound.most c.requires.name in
     let front = c.split_at_mut-front.ensures.front ∙ front_part p.T c.args.list.now c.part-count.new.list c.part-count.result (c.part-count.ensures.parts p.T p.is) (c.part-count.ensures.first p.T p.is) in
-    rw front (all_first (IsHeld c.args.streams.now.l) p.T c.args.list.now c.requires.held)
+    let held : All (IsHeld c.args.streams.now.l) c.split_at_mut-front.result.0.now = subst (All (IsHeld c.args.streams.now.l)) (sym front) (all_first (IsHeld c.args.streams.now.l) p.T c.args.list.now c.requires.held) in
+    let low = c.level.ensures.most in
+    let top = c.level.ensures.level in
+    let above = c.if-level-l.false in
+    let up = c.child-first.ensures.level in
+    let whole = c.split_at_mut-front.ensures.back_len in
+    let part = c.split_at_mut-front.ensures.front_len in
+    let long = c.part-count.ensures.length in
+    let room = c.part-count.ensures.room in
+    search rules
 
-pub sort-requires-2-clause-held : goal.sort-requires-2-clause-held
-sort-requires-2-clause-held g t c =
+pub sort-requires-2 : goal.sort-requires-2
+sort-requires-2 g t c =
     let l = c.args.l in
     let p = placed l c.args.name c.requires.bound.most c.requires.name in
     let back = c.split_at_mut-front.ensures.back ∙ back_part p.T c.args.list.now c.part-count.new.list c.part-count.result (c.part-count.ensures.parts p.T p.is) (c.part-count.ensures.first p.T p.is) in
-    rw (c.sort.ensures.stays.l, back) (all_second (IsHeld c.args.streams.now.l) p.T c.args.list.now c.requires.held)
+    let held : All (IsHeld c.sort.new.streams.l) c.split_at_mut-front.result.1.now =
+    subst (λ L. All (IsHeld L) c.split_at_mut-front.result.1.now) (sym c.sort.ensures.stays.l)
+    (subst (All (IsHeld c.args.streams.now.l)) (sym back) (all_second (IsHeld c.args.streams.now.l) p.T c.args.list.now c.requires.held)) in
+    let low = c.level.ensures.most in
+    let top = c.level.ensures.level in
+    let above = c.if-level-l.false in
+    let up = c.child-second.ensures.level in
+    let whole = c.split_at_mut-front.ensures.back_len in
+    let part = c.split_at_mut-front.ensures.front_len in
+    let long = c.part-count.ensures.length in
+    let room = c.part-count.ensures.room in
+    let total = c.in_ok-sort.ensures.total in
+    let scratch = c.sort.ensures.scratch in
+    search rules
 
 pub returns-clause-below : goal.returns-clause-below
 returns-clause-below g t c =
