@@ -1,9 +1,9 @@
 -- Triangles of a list that pass a test are put to the front of a list, one after another.
-use Rattle.std.proofs.Common.{◌≡◌, ℕ, ◌++◌, ◌∷◌, ◌+◌, ◌-◌, ◌<◌, ◌≤◌, [], List, Option, Some, Bool, true, false, cond, length, get_or, refl, sym, ◌∙◌, ap, arith, append-nil}
+use Rattle.std.proofs.Common.{◌≡◌, ℕ, ◌++◌, ◌∷◌, ◌+◌, ◌-◌, ◌<◌, ◌≤◌, [], Some, Bool, true, false, cond, length, get_or, refl, sym, ◌∙◌, ap, arith, append-nil}
 use Rattle.std.specs.Prelude.{not, drop, filter, slice_set, take, All}
 use Rattle.std.specs.Option.{ForSome}
 use Rattle.std.proofs.lemmas.List.{drop_all, drop_at, drop-drop, drop-set-lt, get_or-drop, length-drop, length-set, length-take-le, take_all, take_at, take_more_set}
-use Rattle.std.proofs.lemmas.List.Elements.{All-append, All-drop, All-filter, All-take, filter_more}
+use Rattle.std.proofs.lemmas.List.Elements.{All-filter, filter_more}
 use Rattle.std.proofs.lemmas.List.Filters.{length-filter_both}
 use borrow.Rule.Slice.PartMut.{put_mid}
 use Rattle.tpz_base.specs.declared.shape.Tri.{Tri}

@@ -1,5 +1,5 @@
 -- A search over named streams: what it adds by the triangles that go through, and what it keeps.
-use Rattle.std.proofs.Common.{◌≡◌, ◌≢◌, ◌<◌, ◌≤◌, ◌+◌, ◌*◌, ℕ, suc, ◌∷◌, List, Option, Some, None, Bool, true, false, refl, sym, ◌∙◌, ap, subst, inl, inr, ◌⊎◌, arith, length}
+use Rattle.std.proofs.Common.{◌≡◌, ◌≢◌, ◌≤◌, ◌*◌, ℕ, suc, ◌∷◌, List, Option, Some, true, sym, ◌∙◌, ap, subst, inl, inr, arith, length}
 use Rattle.std.specs.Option.{ForSome}
 use Rattle.std.specs.FinMap.{get}
 use Rattle.std.proofs.lemmas.Bool.{or_left, or_right}
@@ -14,7 +14,7 @@ use Rattle.tpz_base.proofs.PointLemmas.{point_eq_refl}
 use Rattle.tetra_name.specs.declared.shape.Tet.{Tet}
 use Rattle.tetra_name.specs.Names.{point_of, tetrahedron_of}
 use Rattle.tri_stream.specs.declared.names.StreamId.{StreamId}
-use Rattle.tri_stream.specs.Streams.{StreamsState, list_of, told_list, Stands}
+use Rattle.tri_stream.specs.Streams.{StreamsState, list_of, Stands}
 use Rattle.assign.specs.Names.{LeafTable}
 use Rattle.diamond_graph.specs.Closed.{closure, IsPartOf}
 use Rattle.diamond_graph.proofs.ClosureLaw.{closure_holds}

@@ -1,7 +1,7 @@
 -- Triangles of a named stream are taken into memory, divided there, and put into streams of other names.
-use Rattle.std.proofs.Common.{◌≡◌, ◌≢◌, ◌<◌, ◌≤◌, ◌+◌, ◌*◌, ℕ, suc, ◌++◌, ◌∷◌, [], List, Option, Some, None, Bool, true, false, cond, length, refl, sym, ◌∙◌, ap, subst, inl, inr, ◌⊎◌, true≢false, arith, append-nil}
-use Rattle.std.specs.Prelude.{Contains, filter, is_some, IsSome, drop, take}
-use Rattle.std.specs.Option.{ForSome, option_map, unwrap_or}
+use Rattle.std.proofs.Common.{◌≡◌, ◌≢◌, ◌≤◌, ◌+◌, ◌*◌, ℕ, suc, ◌++◌, ◌∷◌, [], List, Option, Some, None, true, cond, refl, sym, ◌∙◌, ap, inl, inr, ◌⊎◌, true≢false}
+use Rattle.std.specs.Prelude.{Contains, is_some, IsSome}
+use Rattle.std.specs.Option.{ForSome, option_map}
 use Rattle.std.specs.FinMap.{get, remove}
 use Rattle.std.proofs.lemmas.Bool.{false_from_ne_true}
 use Rattle.tpz_base.specs.declared.shape.Point.{Point}
@@ -132,10 +132,13 @@ divided L M name first second n T others m s h within k is first_is second_is w 
 
     once : (t : Tri) → Contains M t → IsOnce L t m (first ∷ second ∷ others)
     once t among =
-        let o = w.once t among in
-        (λ g. ((o.0 (up_first t g)).0,
-        λ r. elim r [ inl f ↦ absurd (true≢false (sym (by_second t f) ∙ (on t).apart (by_first t g))) | inr q ↦ (o.0 (up_first t g)).1 q ]),
-        (λ g. o.0 (up_second t g), o.1))
+        let o = w.once t among in (
+          λ g. (
+            (o.0 (up_first t g)).0,
+            λ r. elim r [ inl f ↦ absurd (true≢false (sym (by_second t f) ∙ (on t).apart (by_first t g))) | inr q ↦ (o.0 (up_first t g)).1 q ],
+          ),
+          (λ g. o.0 (up_second t g), o.1),
+        )
 
 -- A name gets a stream, and triangles are added at its end.
 pub record Put (name : Tet) (id : StreamId) (N : Mesh) (m m1 : LeafTable) (s s1 s2 : StreamsState) (h h2 : Option (List ℕ)) : Type 0 where
@@ -163,17 +166,17 @@ module _ (name : Tet) (id : StreamId) (N : Mesh) (m m1 : LeafTable) (s s1 s2 : S
     live = λ other x is. elim (same_name x id) [ inl e ↦ rw e p.live | inr ne ↦ live_as_before s1 s2 x (p.others.counts x ne) (keyed_1.live other x is) ];
     one = keyed_1.one;
     only = λ x lives. elim (same_name x id) [
-        | inl e ↦ (name, rw e p.names.here)
-        | inr ne ↦ keyed_1.only x (live_as_before s2 s1 x (sym (p.others.counts x ne)) lives)
-      ];
+      | inl e ↦ (name, rw e p.names.here)
+      | inr ne ↦ keyed_1.only x (live_as_before s2 s1 x (sym (p.others.counts x ne)) lives)
+    ];
   }
 
   pub put_below : (L : ℕ) (F : List Point) (T : Tetrahedron) → tetrahedron_of L name ≡ Some T → IsBelow L F T → AllBelow L F m → AllBelow L F m1
   put_below L F T is below all = λ other x here.
-    elim (same_tet other name) [
-      | inl e ↦ (T, ap (tetrahedron_of L) e ∙ is, below)
-      | inr ne ↦ all other x (sym (p.names.rest other ne) ∙ here)
-    ]
+      elim (same_tet other name) [
+        | inl e ↦ (T, ap (tetrahedron_of L) e ∙ is, below)
+        | inr ne ↦ all other x (sym (p.names.rest other ne) ∙ here)
+      ]
 
   module _ (L : ℕ) (M : Mesh) (T : Tetrahedron) (others : List Tet) (is : tetrahedron_of L name ≡ Some T) (all : N ≡ through L M T) (w : HoldsWith L M (name ∷ others) m s h) where
     -- where it was named, no triangle goes through it
@@ -233,9 +236,10 @@ module _ (name : Tet) (id : StreamId) (N : Mesh) (m m1 : LeafTable) (s s1 s2 : S
           | inl e ↦ elim (same_tet r.name name) [ inl f ↦ e ∙ sym f | inr nf ↦ absurd ((a (goes_by t q e)).0 (before t r nf)) ]
           | inr ne ↦ elim (same_tet r.name name) [ inl f ↦ absurd ((a (goes_by t r f)).0 (before t q ne)) | inr nf ↦ o (before t q ne) (before t r nf) ]
         ]
-    still_once t (n ∷ names) a o =
-        (λ g. (λ q. elim (same_tet q.name name) [ inl e ↦ (a (goes_by t q e)).1 (inl g) | inr ne ↦ (o.0 g).0 (before t q ne) ], (o.0 g).1),
-        still_once t names (λ g. ((a g).0, λ q. (a g).1 (inr q))) o.1)
+    still_once t (n ∷ names) a o = (
+      λ g. (λ q. elim (same_tet q.name name) [ inl e ↦ (a (goes_by t q e)).1 (inl g) | inr ne ↦ (o.0 g).0 (before t q ne) ], (o.0 g).1),
+      still_once t names (λ g. ((a g).0, λ q. (a g).1 (inr q))) o.1,
+    )
 
     pub put_holds : HoldsWith L M others m1 s2 h2
     put_holds = record {

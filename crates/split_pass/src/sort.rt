@@ -125,5 +125,15 @@ pub(crate) fn find_within<B: Blob>(
 {
     let mut list = take_up(streams, work, leaves, name, id)?;
     let mut rest = Vec::from_slice(leaves.alloc(), list.as_slice())?;
-    sort(streams, work, closing, leaves, list.as_mut_slice(), rest.as_mut_slice(), name, l, cap)
+    sort(
+        streams,
+        work,
+        closing,
+        leaves,
+        list.as_mut_slice(),
+        rest.as_mut_slice(),
+        name,
+        l,
+        cap,
+    )
 }

@@ -1,8 +1,5 @@
 -- The name gets a stream, and the triangles are added to it.
-use Rattle.std.proofs.Common.{◌≡◌, ◌∙◌, arith, sym, subst}
-use Rattle.std.specs.Prelude.{All}
-use Rattle.tri_stream.specs.Lists.{IsHeld}
-use Rattle.split_pass.proofs.Waiting.{put_below, put_holds, put_keyed, Put}
+use Rattle.split_pass.proofs.Waiting.{put_below, put_holds, put_keyed}
 use Rattle.split_pass.proofs.lift.put_down.Goals as goal
 
 pub returns-clause-keyed : goal.returns-clause-keyed

@@ -1,9 +1,8 @@
 -- The stream ends with its name, and its triangles wait.
-use Rattle.std.proofs.Common.{◌≡◌, ◌∙◌, length, sym, ap, subst}
+use Rattle.std.proofs.Common.{◌∙◌, length, sym, ap, subst}
 use Rattle.std.specs.FinMap as map
 use Rattle.std.specs.Prelude.{All}
 use Rattle.tri_stream.specs.Lists.{IsHeld}
-use Rattle.tri_stream.proofs.Changes.{live_as_before, told_bytes}
 use Rattle.split_pass.specs.Crowds.{through}
 use Rattle.split_pass.specs.Spread.{AllBelow}
 use Rattle.split_pass.proofs.Halving.{removed_rest}

@@ -1,11 +1,11 @@
 -- Each triangle is put behind those of its child.
-use Rattle.std.proofs.Common.{◌≡◌, ◌+◌, ◌<◌, ◌≤◌, ◌++◌, ◌∙◌, List, Some, get_or, length, refl, sym, ap, arith}
+use Rattle.std.proofs.Common.{◌≡◌, ◌+◌, ◌<◌, ◌++◌, ◌∙◌, List, Some, get_or, length, refl, ap, arith}
 use Rattle.std.specs.Prelude.{slice_set, take}
 use Rattle.std.proofs.lemmas.List.{get_or_default, length-set}
 use Rattle.tpz_base.specs.declared.shape.Tri.{Tri}
 use Rattle.tpz_base.specs.Tetrahedra.{Tetrahedron}
 use Rattle.tetra_name.specs.Names.{tetrahedron_of}
-use Rattle.assign.specs.Paths.{is_beyond, side_of}
+use Rattle.assign.specs.Paths.{side_of}
 use Rattle.split_pass.proofs.Dividing.{at_some, beyond, not_beyond}
 use Rattle.split_pass.proofs.Parting.{parted_all, parted_as, parted_count, parted_first, parted_none, parted_second, put_back}
 use Rattle.split_pass.proofs.part.part.Goals as goal
@@ -40,7 +40,7 @@ triangles-preserved c =
     elim c.if-side-eq0.branch [
       | then-side-eq0 w ↦
           let side = λ (T : Tetrahedron) (is : tetrahedron_of l name ≡ Some T). not_beyond t T c.side.result
-              (at_some (tetrahedron_of c.of-plane.result.l c.of-plane.result.name) (λ T. c.side.result ≡ side_of t T) T c.side.ensures.side (plane ∙ is)) w.if-side-eq0.true in
+          (at_some (tetrahedron_of c.of-plane.result.l c.of-plane.result.name) (λ T. c.side.result ≡ side_of t T) T c.side.ensures.side (plane ∙ is)) w.if-side-eq0.true in
           record {
             parted = parted_as l name M (slice_set list first t) c.if-side-eq0.list rest c.if-side-eq0.rest (i + 1) (first + 1) c.if-side-eq0.first second c.if-side-eq0.second
                 w.list-is w.rest-is w.first-is w.second-is (parted_first l name M list rest i first second t p within here side);
@@ -48,7 +48,7 @@ triangles-preserved c =
           }
       | else-side-eq0 w ↦
           let side = λ (T : Tetrahedron) (is : tetrahedron_of l name ≡ Some T). beyond t T c.side.result
-              (at_some (tetrahedron_of c.of-plane.result.l c.of-plane.result.name) (λ T. c.side.result ≡ side_of t T) T c.side.ensures.side (plane ∙ is)) w.if-side-eq0.false in
+          (at_some (tetrahedron_of c.of-plane.result.l c.of-plane.result.name) (λ T. c.side.result ≡ side_of t T) T c.side.ensures.side (plane ∙ is)) w.if-side-eq0.false in
           record {
             parted = parted_as l name M list c.if-side-eq0.list (slice_set rest second t) c.if-side-eq0.rest (i + 1) first c.if-side-eq0.first (second + 1) c.if-side-eq0.second
                 w.list-is w.rest-is w.first-is w.second-is (parted_second l name M list rest i first second t p within here (omega arith) side);

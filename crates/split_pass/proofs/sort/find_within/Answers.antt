@@ -1,5 +1,5 @@
 -- What the search does over the triangles of the stream, which waited.
-use Rattle.std.proofs.Common.{◌≡◌, ◌<◌, ◌-◌, ◌*◌, ◌∙◌, [], arith, length}
+use Rattle.std.proofs.Common.{◌<◌, ◌-◌, ◌*◌, ◌∙◌, []}
 use Rattle.std.proofs.lemmas.Result.{on_ok_weaker}
 use Rattle.tpz_base.specs.Diamonds.{level_of}
 use Rattle.tetra_name.specs.Names.{point_of}
