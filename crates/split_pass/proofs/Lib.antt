@@ -10,6 +10,6 @@ mod Settling
 mod RootNames
 mod Leaving
 mod Waiting
-mod Lifting
+mod OneByOne
 mod Parting
 mod Sorting

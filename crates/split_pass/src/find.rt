@@ -27,7 +27,7 @@ use tetra_name::{Tet, child, level, root};
 use tpz_io::Blob;
 use tri_stream::{StreamId, Streams};
 
-/// How many triangles fit into memory, twice.
+/// A stream of at most so many triangles is divided in memory: they and the room for as many take 19 MB.
 const ROOM: u64 = 262_144;
 
 /// Adds the diamonds of the crowded tetrahedra from this one down, and divides their streams. Those at which it ends stay named. It calls itself once

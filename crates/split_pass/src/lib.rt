@@ -7,8 +7,8 @@
 mod divide;
 mod fault;
 mod find;
-mod lift;
-mod part;
+mod lists;
+mod partition;
 mod pass;
 mod root;
 mod settle;

@@ -20,8 +20,8 @@ ghost use Rattle.split_pass.specs.Spread.{AllBelow, HoldsThrough, IsBelow, IsKey
 ghost use Rattle.split_pass.specs.Waiting.{HoldsWith};
 
 use crate::fault::SplitFault;
-use crate::lift::{put_down, take_up};
-use crate::part::part;
+use crate::lists::{put_list, take_list};
+use crate::partition::partition;
 use assign::Leaves;
 use diamond_graph::Closing;
 use tetra_name::{Tet, child, level};
@@ -73,12 +73,12 @@ fn sort<B: Blob>(
     ensures telling { is_some (B.held work.new) ≡ is_some (B.held work.old) }
 {
     if list.len() <= cap as usize || level(name.centre, l) == 3 * l {
-        return put_down(streams, work, leaves, list, name);
+        return put_list(streams, work, leaves, list, name);
     }
     closing.add_closed(name.centre)?;
     let first = child(name, 0, l);
     let second = child(name, 1, l);
-    let count = part(list, rest, name, l);
+    let count = partition(list, rest, name, l);
     let (front, back) = list.split_at_mut(count);
     sort(streams, work, closing, leaves, front, rest, first, l, cap)?;
     sort(streams, work, closing, leaves, back, rest, second, l, cap)
@@ -123,7 +123,7 @@ pub(crate) fn find_within<B: Blob>(
     ensures work_damage { (offset : ℕ) → result ≡ Err (SplitFault.WorkDamage offset) → B.held work.old ≡ None }
     ensures telling { is_some (B.held work.new) ≡ is_some (B.held work.old) }
 {
-    let mut list = take_up(streams, work, leaves, name, id)?;
+    let mut list = take_list(streams, work, leaves, name, id)?;
     let mut rest = Vec::from_slice(leaves.alloc(), list.as_slice())?;
     sort(
         streams,

@@ -30,15 +30,15 @@ returns-in_err-add_closed-clause-too_many g t c = λ e. λ T is V set.
 
 pub returns-then-list-cap-clause-below : goal.returns-then-list-cap-clause-below
 returns-then-list-cap-clause-below g t c =
-    on_ok_weaker c.put_down.result (λ f. λ T is below all. f c.args.l c.args.closing.now.set T is below all) c.put_down.ensures.below
+    on_ok_weaker c.put_list.result (λ f. λ T is below all. f c.args.l c.args.closing.now.set T is below all) c.put_list.ensures.below
 
 pub returns-then-list-cap-clause-holds : goal.returns-then-list-cap-clause-holds
 returns-then-list-cap-clause-holds g t c =
-    on_ok_weaker c.put_down.result (λ f. λ M T others is all w. f c.args.l M T others is all w) c.put_down.ensures.holds
+    on_ok_weaker c.put_list.result (λ f. λ M T others is all w. f c.args.l M T others is all w) c.put_list.ensures.holds
 
 pub returns-then-list-cap-clause-found : goal.returns-then-list-cap-clause-found
 returns-then-list-cap-clause-found g t c =
-    on_ok_weaker c.put_down.result
+    on_ok_weaker c.put_list.result
     (λ f. λ T is V set.
     let l = c.args.l in
     let n = 3 * l - level_of l (point_of c.args.name.centre) in
@@ -48,13 +48,13 @@ returns-then-list-cap-clause-found g t c =
       | then-list-cap-via-else-list-cap+then-level-l w ↦ inr (omega arith)
     ]
     in
-    set ∙ ap (closure l) (sym (with_none n c.args.cap T c.args.list.now V why))) c.put_down.ensures.keyed
+    set ∙ ap (closure l) (sym (with_none n c.args.cap T c.args.list.now V why))) c.put_list.ensures.keyed
 
 pub sort-requires : goal.sort-requires
 sort-requires g t c =
     let l = c.args.l in
     let p = placed l c.args.name c.requires.bound.most c.requires.name in
-    let front = c.split_at_mut-front.ensures.front ∙ front_part p.T c.args.list.now c.part-count.new.list c.part-count.result (c.part-count.ensures.parts p.T p.is) (c.part-count.ensures.first p.T p.is) in
+    let front = c.split_at_mut-front.ensures.front ∙ front_part p.T c.args.list.now c.partition-count.new.list c.partition-count.result (c.partition-count.ensures.parts p.T p.is) (c.partition-count.ensures.first p.T p.is) in
     let held : All (IsHeld c.args.streams.now.l) c.split_at_mut-front.result.0.now = subst (All (IsHeld c.args.streams.now.l)) (sym front) (all_first (IsHeld c.args.streams.now.l) p.T c.args.list.now c.requires.held) in
     let low = c.level.ensures.most in
     let top = c.level.ensures.level in
@@ -62,15 +62,15 @@ sort-requires g t c =
     let up = c.child-first.ensures.level in
     let whole = c.split_at_mut-front.ensures.back_len in
     let part = c.split_at_mut-front.ensures.front_len in
-    let long = c.part-count.ensures.length in
-    let room = c.part-count.ensures.room in
+    let long = c.partition-count.ensures.length in
+    let room = c.partition-count.ensures.room in
     search rules
 
 pub sort-requires-2 : goal.sort-requires-2
 sort-requires-2 g t c =
     let l = c.args.l in
     let p = placed l c.args.name c.requires.bound.most c.requires.name in
-    let back = c.split_at_mut-front.ensures.back ∙ back_part p.T c.args.list.now c.part-count.new.list c.part-count.result (c.part-count.ensures.parts p.T p.is) (c.part-count.ensures.first p.T p.is) in
+    let back = c.split_at_mut-front.ensures.back ∙ back_part p.T c.args.list.now c.partition-count.new.list c.partition-count.result (c.partition-count.ensures.parts p.T p.is) (c.partition-count.ensures.first p.T p.is) in
     let held : All (IsHeld c.sort.new.streams.l) c.split_at_mut-front.result.1.now =
     subst (λ L. All (IsHeld L) c.split_at_mut-front.result.1.now) (sym c.sort.ensures.stays.l)
     (subst (All (IsHeld c.args.streams.now.l)) (sym back) (all_second (IsHeld c.args.streams.now.l) p.T c.args.list.now c.requires.held)) in
@@ -80,8 +80,8 @@ sort-requires-2 g t c =
     let up = c.child-second.ensures.level in
     let whole = c.split_at_mut-front.ensures.back_len in
     let part = c.split_at_mut-front.ensures.front_len in
-    let long = c.part-count.ensures.length in
-    let room = c.part-count.ensures.room in
+    let long = c.partition-count.ensures.length in
+    let room = c.partition-count.ensures.room in
     let total = c.in_ok-sort.ensures.total in
     let scratch = c.sort.ensures.scratch in
     search rules
@@ -148,10 +148,10 @@ returns-clause-holds g t c =
     let within : suc depth ≤ 3 * l = omega arith in
     let first_is = left_child l name first T c.child-first.ensures.child is in
     let second_is = right_child l name second T c.child-second.ensures.child is in
-    let parts = c.part-count.ensures.parts T is in
-    let count = c.part-count.ensures.first T is in
-    let front = c.split_at_mut-front.ensures.front ∙ front_through l depth c.part-count.result M c.args.list.now c.part-count.new.list T within k all parts count in
-    let back = c.split_at_mut-front.ensures.back ∙ back_through l depth c.part-count.result M c.args.list.now c.part-count.new.list T within k all parts count in
+    let parts = c.partition-count.ensures.parts T is in
+    let count = c.partition-count.ensures.first T is in
+    let front = c.split_at_mut-front.ensures.front ∙ front_through l depth c.partition-count.result M c.args.list.now c.partition-count.new.list T within k all parts count in
+    let back = c.split_at_mut-front.ensures.back ∙ back_through l depth c.partition-count.result M c.args.list.now c.partition-count.new.list T within k all parts count in
     let w_1 = divided l M name first second depth T others c.args.leaves.now c.args.streams.now (g.B.Blob.held c.args.work.now) within k is first_is second_is w in
     f M (child_1 T) others second_is back (c.in_ok-sort.ensures.holds M (child_0 T) (second ∷ others) first_is front w_1)) c.sort-2.ensures.holds
 
@@ -168,7 +168,7 @@ returns-in_err-sort-clause-too_many g t c = λ e. λ T is V set.
     (rw c.requires.l at c.in_ok-add_closed.ensures.set)
     in
     let first_is = left_child l c.args.name c.child-first.result T c.child-first.ensures.child is in
-    let front = c.split_at_mut-front.ensures.front ∙ front_part T list c.part-count.new.list c.part-count.result (c.part-count.ensures.parts T is) (c.part-count.ensures.first T is) in
+    let front = c.split_at_mut-front.ensures.front ∙ front_part T list c.partition-count.new.list c.partition-count.result (c.partition-count.ensures.parts T is) (c.partition-count.ensures.first T is) in
     let m = 3 * l - level_of l (point_of c.child-first.result.centre) in
     let below = c.child-first.ensures.level in
     let p = err_from_is_err_and c.from_residual-in_err-sort.result c.from_residual-in_err-sort.ensures.1 in
@@ -192,8 +192,8 @@ returns-clause-found g t c =
     in
     let first_is = left_child l c.args.name c.child-first.result T c.child-first.ensures.child is in
     let second_is = right_child l c.args.name c.child-second.result T c.child-second.ensures.child is in
-    let front = c.split_at_mut-front.ensures.front ∙ front_part T list c.part-count.new.list c.part-count.result (c.part-count.ensures.parts T is) (c.part-count.ensures.first T is) in
-    let back = c.split_at_mut-front.ensures.back ∙ back_part T list c.part-count.new.list c.part-count.result (c.part-count.ensures.parts T is) (c.part-count.ensures.first T is) in
+    let front = c.split_at_mut-front.ensures.front ∙ front_part T list c.partition-count.new.list c.partition-count.result (c.partition-count.ensures.parts T is) (c.partition-count.ensures.first T is) in
+    let back = c.split_at_mut-front.ensures.back ∙ back_part T list c.partition-count.new.list c.partition-count.result (c.partition-count.ensures.parts T is) (c.partition-count.ensures.first T is) in
     let m = 3 * l - level_of l (point_of c.child-first.result.centre) in
     let below = c.child-first.ensures.level in
     let set_2 = by_list l m c.args.cap (child_0 T) c.split_at_mut-front.result.0.now (first_part T list) (diamond T ∷ V) c.sort.new.closing.set front
@@ -220,8 +220,8 @@ returns-clause-too_many g t c = λ e. λ T is V set.
     in
     let first_is = left_child l c.args.name c.child-first.result T c.child-first.ensures.child is in
     let second_is = right_child l c.args.name c.child-second.result T c.child-second.ensures.child is in
-    let front = c.split_at_mut-front.ensures.front ∙ front_part T list c.part-count.new.list c.part-count.result (c.part-count.ensures.parts T is) (c.part-count.ensures.first T is) in
-    let back = c.split_at_mut-front.ensures.back ∙ back_part T list c.part-count.new.list c.part-count.result (c.part-count.ensures.parts T is) (c.part-count.ensures.first T is) in
+    let front = c.split_at_mut-front.ensures.front ∙ front_part T list c.partition-count.new.list c.partition-count.result (c.partition-count.ensures.parts T is) (c.partition-count.ensures.first T is) in
+    let back = c.split_at_mut-front.ensures.back ∙ back_part T list c.partition-count.new.list c.partition-count.result (c.partition-count.ensures.parts T is) (c.partition-count.ensures.first T is) in
     let m = 3 * l - level_of l (point_of c.child-first.result.centre) in
     let below = c.child-first.ensures.level in
     let set_2 = by_list l m c.args.cap (child_0 T) c.split_at_mut-front.result.0.now (first_part T list) (diamond T ∷ V) c.sort.new.closing.set front

@@ -1,6 +1,6 @@
 -- The name gets a stream, and the triangles are added to it.
 use Rattle.split_pass.proofs.Waiting.{put_below, put_holds, put_keyed}
-use Rattle.split_pass.proofs.lift.put_down.Goals as goal
+use Rattle.split_pass.proofs.lists.put_list.Goals as goal
 
 pub returns-clause-keyed : goal.returns-clause-keyed
 returns-clause-keyed g c =

@@ -7,8 +7,8 @@ use Rattle.std.specs.Option.{option_map}
 use Rattle.tpz_base.specs.declared.shape.Tri.{Tri}
 use Rattle.tri_stream.specs.Streams.{told_list}
 use Rattle.split_pass.proofs.Dividing.{nothing_more}
-use Rattle.split_pass.proofs.Lifting.{others_both, others_same, put_more}
-use Rattle.split_pass.proofs.lift.append_all.Goals as goal
+use Rattle.split_pass.proofs.OneByOne.{others_both, others_same, put_more}
+use Rattle.split_pass.proofs.lists.append_all.Goals as goal
 
 -- where an item is past the end
 abbrev no_tri : Tri

@@ -8,8 +8,8 @@ use Rattle.tetra_name.specs.Names.{tetrahedron_of}
 use Rattle.assign.specs.Paths.{side_of}
 use Rattle.split_pass.proofs.Dividing.{at_some, beyond, not_beyond}
 use Rattle.split_pass.proofs.Parting.{parted_all, parted_as, parted_count, parted_first, parted_none, parted_second, put_back}
-use Rattle.split_pass.proofs.part.part.Goals as goal
-use Rattle.split_pass.proofs.part.part.Goals.{then-side-eq0, else-side-eq0}
+use Rattle.split_pass.proofs.partition.partition.Goals as goal
+use Rattle.split_pass.proofs.partition.partition.Goals.{then-side-eq0, else-side-eq0}
 
 pub triangles-init : goal.triangles-init
 triangles-init c = record { parted = parted_none c.args.l c.args.name c.args.list.now c.args.rest.now; room = refl }

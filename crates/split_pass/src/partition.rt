@@ -11,7 +11,7 @@ use tpz_base::Tri;
 
 /// Puts the triangles of the first child of a tetrahedron before those of the second, each in their order, and counts those of the first. `rest` is
 /// room for as many, whatever it holds.
-pub(crate) fn part(list: &mut [Tri], rest: &mut [Tri], name: Tet, l: u8) -> usize
+pub(crate) fn partition(list: &mut [Tri], rest: &mut [Tri], name: Tet, l: u8) -> usize
     requires bound { IsBound l }
     requires name { IsName l name }
     requires level { level_of l (point_of name.centre) < 3 * l }

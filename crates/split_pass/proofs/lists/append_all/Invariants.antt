@@ -3,7 +3,7 @@ use Rattle.std.proofs.Common.{◌≡◌, ◌≤◌, ◌+◌, ◌++◌}
 use Rattle.std.specs.Prelude.{take, is_some}
 use Rattle.std.specs.Option.{option_map}
 use Rattle.tri_stream.specs.Streams.{told_list, total, IsLive, LeavesOthers, Stays}
-use Rattle.split_pass.proofs.lift.append_all.Given as goal
+use Rattle.split_pass.proofs.lists.append_all.Given as goal
 
 abbrev pub invariant-triangles : goal.invariant-triangles
 invariant-triangles g l =

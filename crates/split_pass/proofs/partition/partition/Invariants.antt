@@ -1,7 +1,7 @@
 -- The triangles so far have been put where those of their child are gathered.
 use Rattle.std.proofs.Common.{◌≡◌, length}
 use Rattle.split_pass.proofs.Parting.{Parted}
-use Rattle.split_pass.proofs.part.part.Given as goal
+use Rattle.split_pass.proofs.partition.partition.Given as goal
 
 abbrev pub invariant-triangles : goal.invariant-triangles
 invariant-triangles l = record {

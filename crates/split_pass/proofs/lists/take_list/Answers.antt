@@ -8,7 +8,7 @@ use Rattle.split_pass.specs.Spread.{AllBelow}
 use Rattle.split_pass.proofs.Halving.{removed_rest}
 use Rattle.split_pass.proofs.Settling.{ended_keyed}
 use Rattle.split_pass.proofs.Waiting.{left_below, others_then, still_keyed, taken, total_left}
-use Rattle.split_pass.proofs.lift.take_up.Goals as goal
+use Rattle.split_pass.proofs.lists.take_list.Goals as goal
 
 pub returns-clause-keyed : goal.returns-clause-keyed
 returns-clause-keyed g c =

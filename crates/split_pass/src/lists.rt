@@ -1,4 +1,4 @@
-// The triangles of a stream are taken into memory, and triangles in memory are put into streams.
+// Lists in memory: a stream's triangles are read into one, and the triangles of one are added to streams.
 ghost use Rattle.std.specs.Prelude.{◌≡◌, ◌≢◌, ◌≤◌, ◌+◌, ◌^◌, ◌++◌, ◌∷◌, [], ℕ, List, Some, Err, IfOk, IfErr, OnOk, All, length, is_some};
 ghost use Rattle.std.specs.Option.{ForSome, option_map};
 ghost use Rattle.std.specs.FinMap as map;
@@ -54,7 +54,7 @@ fn read_all<B: Blob>(
 }
 
 /// The triangles of the stream of a name, which ends with its name.
-pub(crate) fn take_up<B: Blob>(
+pub(crate) fn take_list<B: Blob>(
     streams: &mut Streams,
     work: &mut B,
     leaves: &mut Leaves,
@@ -114,7 +114,7 @@ fn append_all<B: Blob>(
 }
 
 /// Adds triangles at the end of the stream of a name, in their order. It gets one where it has none.
-pub(crate) fn put_down<B: Blob>(
+pub(crate) fn put_list<B: Blob>(
     streams: &mut Streams,
     work: &mut B,
     leaves: &mut Leaves,

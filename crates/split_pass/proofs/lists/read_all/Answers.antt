@@ -7,8 +7,8 @@ use Rattle.std.specs.Prelude.{slice_get, All, take}
 use Rattle.tri_stream.specs.Lists.{IsHeld}
 use Rattle.tri_stream.specs.Streams.{count_of, size_of, told_list, IsLive}
 use Rattle.tri_stream.proofs.Changes.{all_taken, live_as_before, reads_more, same_size}
-use Rattle.split_pass.proofs.Lifting.{all_then, leaves_same, list_more}
-use Rattle.split_pass.proofs.lift.read_all.Goals as goal
+use Rattle.split_pass.proofs.OneByOne.{all_then, leaves_same, list_more}
+use Rattle.split_pass.proofs.lists.read_all.Goals as goal
 
 pub triangles-init : goal.triangles-init
 triangles-init g c =

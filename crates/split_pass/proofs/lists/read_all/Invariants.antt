@@ -4,7 +4,7 @@ use Rattle.std.specs.Prelude.{take, All, is_some}
 use Rattle.std.specs.Option.{ForSome}
 use Rattle.tri_stream.specs.Lists.{IsHeld}
 use Rattle.tri_stream.specs.Streams.{size_of, told_list, Follows, LeavesAll, Stays}
-use Rattle.split_pass.proofs.lift.read_all.Given as goal
+use Rattle.split_pass.proofs.lists.read_all.Given as goal
 
 abbrev pub invariant-triangles : goal.invariant-triangles
 invariant-triangles g l =
