@@ -119,15 +119,18 @@ fn main() -> ExitCode {
     let Ok(mut work) = Paged::new(Global, FileBlob::new(folder, "work.tmp")) else {
         return ExitCode::from(2);
     };
-    let status = run(
-        Global,
-        words,
-        &mut source("input.ply"),
-        &mut source("script.txt"),
-        &mut work,
-        &mut FileBlob::new(folder, "store.tpz"),
-        &mut FileOut { folder: folder.to_owned(), file: None, finished: 0 },
-    );
+    let (input, script) = (&mut source("input.ply"), &mut source("script.txt"));
+    let out = &mut FileOut { folder: folder.to_owned(), file: None, finished: 0 };
+    let mut store = FileBlob::new(folder, "store.tpz");
+    // To try: pages round the store too.
+    let status = if std::env::var_os("PAGED_STORE").is_some() {
+        let Ok(mut store) = Paged::new(Global, store) else {
+            return ExitCode::from(2);
+        };
+        run(Global, words, input, script, &mut work, &mut store, out)
+    } else {
+        run(Global, words, input, script, &mut work, &mut store, out)
+    };
     if status != Status::Ok {
         if let Ok(line) = status.line(Global) {
             eprintln!("{line}");
