@@ -29,10 +29,10 @@ same_tet a b =
       | inr e ↦ inr (λ same. true≢false (sym (ties_itself a) ∙ ap (eq_by_cmp tet_cmp a) same ∙ e))
     ]
 
-set_here : (table : LeafTable) (leaf : Tet) (id : StreamId) → get (insert table leaf id) leaf ≡ Some id
+pub set_here : (table : LeafTable) (leaf : Tet) (id : StreamId) → get (insert table leaf id) leaf ≡ Some id
 set_here table leaf id = get-insert tet_cmp_total table leaf id leaf ∙ ap (λ b. cond b (Some id) (get table leaf)) (ties_itself leaf)
 
-set_rest : (table : LeafTable) (leaf : Tet) (id : StreamId) (name : Tet) → name ≢ leaf → get (insert table leaf id) name ≡ get table name
+pub set_rest : (table : LeafTable) (leaf : Tet) (id : StreamId) (name : Tet) → name ≢ leaf → get (insert table leaf id) name ≡ get table name
 set_rest table leaf id name ne =
     get-insert tet_cmp_total table leaf id name
     ∙ elim (cases_Bool (eq_by_cmp tet_cmp name leaf)) [

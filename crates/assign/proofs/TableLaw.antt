@@ -1,13 +1,16 @@
 -- A table as a finite map, by its list of entries.
-use Rattle.std.proofs.Common.{◌≡◌, ℕ, Bool, true, false, ◌&&◌, cond, List, [], ◌∷◌, map, refl, sym, ◌∙◌, ap, ap₂, arith}
-use Rattle.std.specs.Prelude.{◌==◌, Some, None}
+use Rattle.std.proofs.Common.{◌≡◌, ℕ, zero, suc, ◌<◌, Bool, true, false, ◌&&◌, cond, List, [], ◌∷◌, map, length, slice_index_or, refl, sym, ◌∙◌, ap, ap₂, arith}
+use Rattle.std.specs.Prelude.{◌==◌, Option, Some, None, Contains, IsSome}
 use Rattle.std.specs.declared.cmp.Ordering.{Ordering}
 use Rattle.std.specs.declared.cmp.Ordering.TheVariants.{Less, Equal, Greater}
 use Rattle.std.specs.Ordering.{nat_cmp, eq_by_cmp, is_eq, ordering_then}
 use Rattle.std.specs.Cmp.{IsTotalOrder, on_total}
 use Rattle.std.specs.Cmp.Lexicographic.{slice_cmp, nat_list_cmp_total}
 use Rattle.std.specs.FinMap.{IsAntisymmetric, find, get, insert, remove, get-from_entries, get-insert, get-remove, same_map, slice_cmp-IsAntisymmetric, nat_cmp-IsAntisymmetric}
-use Rattle.std.specs.Map.{lookup}
+use Rattle.std.specs.Map.{keys_of, lookup}
+use Rattle.std.proofs.lemmas.Bool.{eqb-true}
+use Rattle.std.proofs.lemmas.List.{length-map}
+use Rattle.std.proofs.lemmas.Map.Views.{Contains-keys_from_lookup}
 use Rattle.std.proofs.lemmas.Bool.Decides.{nat_tests}
 use Rattle.tetra_name.specs.declared.shape.Tet.{Tet}
 use Rattle.tri_stream.specs.declared.names.StreamId.{StreamId}
@@ -96,3 +99,41 @@ take_table es fs k name e h =
 
 pub get_by_key : (es : List (Key × StreamId)) (k : Key) (name : Tet) → name_of k ≡ name → lookup (key_eq k) es ≡ get (table_of es) name
 get_by_key es k name e = sym (get_is es (name_of k)) ∙ ap (get (table_of es)) e
+
+-- keys that are equal are the same
+key_same : (j k : Key) → key_eq j k ≡ true → j ≡ k
+key_same j k e =
+    let yz = and_parts (j.x == k.x) (j.y == k.y && (j.z == k.z && j.slot == k.slot)) e in
+    let z = and_parts (j.y == k.y) (j.z == k.z && j.slot == k.slot) yz.1 in
+    let slot = and_parts (j.z == k.z) (j.slot == k.slot) z.1 in
+    rebuilt (eqb-true j.x k.x yz.0) (eqb-true j.y k.y z.0) (eqb-true j.z k.z slot.0) (eqb-true j.slot k.slot slot.1)
+  where
+    and_parts : (a b : Bool) → (a && b) ≡ true → (a ≡ true) × (b ≡ true)
+    and_parts true b h = (refl, h)
+    and_parts false b h = absurd cc
+
+    made : ℕ → ℕ → ℕ → ℕ → Key
+    made x y z i = record { x = x; y = y; z = z; slot = i }
+
+    rebuilt : j.x ≡ k.x → j.y ≡ k.y → j.z ≡ k.z → j.slot ≡ k.slot → j ≡ k
+    rebuilt x y z i = four j.x j.y j.z j.slot k.x k.y k.z k.slot x y z i where
+      four : (a b c d a' b' c' d' : ℕ) → a ≡ a' → b ≡ b' → c ≡ c' → d ≡ d' → made a b c d ≡ made a' b' c' d'
+      four a b c d a' b' c' d' e f g h = cc
+
+contains_map : (ks : List Key) (k : Key) → Contains ks k → Contains (map name_of ks) (name_of k)
+contains_map ks k (i, h, e) = (i, rw (length-map ks name_of) h, at_place ks i h e)
+  where
+    at_place : (xs : List Key) (i : ℕ) → i < length xs → slice_index_or xs i k ≡ k → slice_index_or (map name_of xs) i (name_of k) ≡ name_of k
+    at_place [] i h e = absurd (omega arith)
+    at_place (x ∷ xs) zero h e = ap name_of e
+    at_place (x ∷ xs) (suc i) h e = at_place xs i (omega arith) e
+
+-- a name that has a stream is that of a key
+pub named_key : (es : List (Key × StreamId)) (name : Tet) (id : StreamId) → get (table_of es) name ≡ Some id → Contains (map name_of (keys_of es)) name
+named_key es name id is =
+    let found : lookup (key_eq (key_at name)) es ≡ Some id = sym (get_is es name) ∙ is in
+    contains_map (keys_of es) (key_at name) (Contains-keys_from_lookup key_same (key_at name) es (some_is (lookup (key_eq (key_at name)) es) id found))
+  where
+    some_is : (o : Option StreamId) (x : StreamId) → o ≡ Some x → IsSome o
+    some_is None x e = absurd cc
+    some_is (Some y) x e = refl

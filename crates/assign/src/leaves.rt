@@ -1,13 +1,15 @@
 // The table of leaves, and a split.
-ghost use Rattle.std.specs.Prelude.{◌≡◌, OnOk, OnErr};
+ghost use Rattle.std.specs.Prelude.{◌≡◌, Contains, Some, IfOk, OnOk, OnErr};
 ghost use Rattle.std.specs.FinMap as map;
+ghost use Rattle.tetra_name.specs.declared.shape.Tet.{Tet};
+ghost use Rattle.tri_stream.specs.declared.names.StreamId.{StreamId};
 ghost use Rattle.assign.specs.Names.{name_of};
 
 use diamond_graph::Graph;
 use std::alloc::{AllocError, Global};
 use std::collections::HashMap;
 use std::marker::Model;
-use tetra_name::Tet;
+use tetra_name::{Half, Tet};
 use tri_stream::StreamId;
 
 /// A name of a tetrahedron with a hash.
@@ -32,9 +34,24 @@ fn key_of(name: Tet) -> Key
     }
 }
 
+#[inline]
+fn name_at(key: Key) -> Tet
+    ensures { result ≡ name_of key }
+{
+    Tet {
+        centre: Half {
+            x: key.x,
+            y: key.y,
+            z: key.z,
+        },
+        slot: key.slot,
+    }
+}
+
 /// A table from names of tetrahedra to names of streams.
 #[derive(Drop)]
 pub struct Leaves {
+    alloc: Global,
     table: HashMap<Key, StreamId>,
 }
 
@@ -54,6 +71,7 @@ impl Leaves {
         ensures { result ≡ map.empty }
     {
         Leaves {
+            alloc,
             table: HashMap::new(alloc),
         }
     }
@@ -82,6 +100,17 @@ impl Leaves {
         ensures rest { self.new ≡ map.remove self.old name }
     {
         self.table.remove(&key_of(name))
+    }
+
+    /// All names that have a stream, in any order.
+    pub fn names(&self) -> Result<Vec<Tet>, AllocError>
+        ensures { IfOk result (λ names. (name : Tet) (id : StreamId) → map.get self.now name ≡ Some id → Contains names.items name) }
+    {
+        let mut names = Vec::new(self.alloc);
+        'keys: for key in self.table.keys() {
+            names.push(name_at(*key))?;
+        }
+        Ok(names)
     }
 }
 

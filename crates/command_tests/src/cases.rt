@@ -3,6 +3,9 @@ use crate::devices::{Ran, Settings};
 use crate::steps::{Expected, expect, set};
 use std::alloc::{AllocError, Global};
 
+// A run that makes as many calls of the work file isn't looked at.
+const MOST_CALLS: u64 = 10_000;
+
 // The case in hand: its name, what a run begins with, and the last run.
 #[derive(Drop)]
 struct Case {
@@ -30,6 +33,21 @@ impl Case {
         Ok(())
     }
 
+    // Runs the command of these words with one call of the work file failing, the first, then the second, and so on, up to the
+    // first run that answers anything else, which is kept.
+    fn run_each_work(&mut self, alloc: Global, text: &str) -> Result<(), AllocError> {
+        let words = words_of(alloc, text)?;
+        for call in 1..MOST_CALLS {
+            self.settings.work.fails = [call].to_vec(alloc)?;
+            let ran = Ran::new(alloc, &words, &self.settings)?;
+            if ran.line.as_str() != "tpz: work file failed" {
+                self.ran = Some(ran);
+                return Ok(());
+            }
+        }
+        Ok(())
+    }
+
     // Takes a step that sets a device or expects something of the last run, and gives what is wrong.
     fn take(
         &mut self,
@@ -54,6 +72,10 @@ impl Case {
             "" => Ok(None),
             "run" => {
                 self.run(alloc, rest)?;
+                Ok(None)
+            }
+            "each_work" => {
+                self.run_each_work(alloc, rest)?;
                 Ok(None)
             }
             _ => self.take(alloc, step, rest),

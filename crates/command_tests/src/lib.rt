@@ -22,6 +22,7 @@
 //! | Step | Meaning |
 //! |---|---|
 //! | `run WORDS` | runs the command of these words, over the store that the last run left |
+//! | `each_work WORDS` | runs it with the first call of the work file failing, then with the second, and so on, while the work file is blamed; the first other run is kept |
 //! | `line TEXT` | the status has this line, which is empty where all was written |
 //! | `notes TEXT` | these are all notes |
 //! | `parts N` | there are so many finished parts |
@@ -58,6 +59,10 @@ mod stores;
 mod texts;
 #[cfg(test)]
 mod words_tests;
+#[cfg(test)]
+mod work_tests;
+#[cfg(test)]
+mod zeros;
 
 #[cfg(test)]
 pub use cases::failures;

@@ -138,6 +138,7 @@ fn a_tour_writes_what_its_budget_has_simplified(rt: HostRuntime) -> Result<(), F
 
 const TOURED_CUBE: &str = "\
 case a closed mesh, whole and from far away
+work_room 1000000
 script view 128 128 128 0/write/view 100000 0 0 65536/write/
 run gen --size 4
 line
@@ -162,7 +163,7 @@ fn a_tour_writes_closed_parts(rt: HostRuntime) -> Result<(), Fail> {
 // for the others, and four calls open the store.
 const LARGE_TOURS: &str = "\
 case one tour
-work_room 200000
+work_room 4000000
 store_room 2000000
 out_room 2000000
 run gen --size 40

@@ -18,7 +18,7 @@ const TWICE: Tri = Tri {
 #[test]
 fn two_triangles_at_one_place_are_split_to_the_last_level(rt: HostRuntime) -> Result<(), Fail> {
     let alloc = rt.alloc();
-    let mut blob = MemBlob::new(alloc, b"", 0, [1].to_vec(alloc)?)?;
+    let mut blob = MemBlob::new(alloc, b"", 65_536, [].to_vec(alloc)?)?;
     let mut streams = Streams::new(alloc, 0, 1);
     let whole = streams.make()?;
     assert_eq!(rt; streams.append(&mut blob, whole, TWICE), Ok(()));

@@ -1,14 +1,15 @@
 -- The two corners of a triangle that aren't at a point, by their numbers.
-use Rattle.std.proofs.Common.{◌≡◌, ℕ, ◌<◌, true, false, List, length, refl, sym, ◌∙◌, ap, subst, Some}
+use Rattle.std.proofs.Common.{◌≡◌, ◌≢◌, ℕ, ◌+◌, ◌*◌, ◌%◌, true, false, List, [], ◌∷◌, length, sym, ◌∙◌, ap, subst, arith, inl, inr, Some}
 use Rattle.std.specs.Prelude.{nat_eq}
 use Rattle.std.specs.List.{AllByRecursion}
+use Rattle.std.proofs.lemmas.Bool.{cases_Bool}
 use Rattle.tpz_base.specs.declared.shape.Point.{Point}
 use Rattle.tpz_base.specs.declared.shape.Tri.{Tri}
 use Rattle.tpz_base.specs.Lists.{has}
 use Rattle.tpz_base.specs.Points.{point_eq}
 use Rattle.tpz_base.specs.Collapses.{opposite_edge}
 use Rattle.patch_mesh.specs.declared.slot.Slot.{Slot}
-use Rattle.patch_mesh.specs.Slots.{point_at, tri_of, mesh_of, numbers_from, tri_numbered, slot_at, IsFace, IsGood}
+use Rattle.patch_mesh.specs.Slots.{corner_at, point_at, tri_of, mesh_of, numbers_from, tri_numbered, slot_at, IsFace, IsGood}
 use Rattle.patch_mesh.proofs.SheetLaw.{good_at}
 use Rattle.patch_mesh.proofs.CornerLaw.{live_of, tri_is}
 
@@ -56,3 +57,31 @@ module _ (ps : List Point) (p : Point) (s : Slot) (t : Tri) (k : IsKnown ps s t)
 
   pub last_c : point_eq t.a p ≡ false → point_eq t.b p ≡ false → point_at ps s.b ≡ (opposite_edge p t).1
   last_c e f = rw (e, f) b_is
+
+-- which corner of a triangle is at a point, by the corner's place in it
+pub record IsPlaced (p : Point) (c : ℕ) (t : Tri) : Type 0 where
+  pub first : c % 3 ≡ 0 → point_eq t.a p ≡ true
+  pub second : c % 3 ≡ 1 → (point_eq t.a p ≡ false) × (point_eq t.b p ≡ true)
+  pub third : c % 3 ≢ 0 → c % 3 ≢ 1 → (point_eq t.a p ≡ false) × (point_eq t.b p ≡ false)
+
+one_is : (x y : ℕ) → x ∷ [] ≡ y ∷ [] → x ≡ y
+one_is x y e = cc
+
+pub placed : (p : Point) (n c : ℕ) (t : Tri) → corner_at p n t ≡ c ∷ [] → IsPlaced p c t
+placed p n c t e =
+    elim (cases_Bool (point_eq t.a p)) [
+      | inl a ↦
+          let is : 3 * n ≡ c = one_is (3 * n) c (rw a at e) in
+          record { first = λ z. a; second = λ z. absurd (omega arith); third = λ z o. absurd (z (omega arith)) }
+      | inr a ↦ elim (cases_Bool (point_eq t.b p)) [
+        | inl b ↦
+            let is : 3 * n + 1 ≡ c = one_is (3 * n + 1) c (rw (a, b) at e) in
+            record { first = λ z. absurd (omega arith); second = λ z. (a, b); third = λ z o. absurd (o (omega arith)) }
+        | inr b ↦ elim (cases_Bool (point_eq t.c p)) [
+          | inl d ↦
+              let is : 3 * n + 2 ≡ c = one_is (3 * n + 2) c (rw (a, b, d) at e) in
+              record { first = λ z. absurd (omega arith); second = λ z. absurd (omega arith); third = λ z o. (a, b) }
+          | inr d ↦ absurd (cc (rw (a, b, d) at e))
+        ]
+      ]
+    ]

@@ -1,21 +1,21 @@
 -- What a run of `build` says: where memory ran out before it began, where no store was built, and where only the note was left to write.
 use Rattle.std.proofs.Common.{◌≡◌, ◌≤◌, ◌<◌, ℕ, ◌⊎◌, List, [], ◌∷◌, length, refl, sym, ◌∙◌, subst, inl, inr, arith}
-use Rattle.std.specs.Prelude.{is_some, Option, Some, None, Result, Ok, Err}
+use Rattle.std.specs.Prelude.{is_some, Option, Some, None, Ok, Err}
 use Rattle.std.specs.Option.{ForSome}
 use Rattle.tpz_io.specs.Causes.{one_more}
-use Rattle.tpz_io.specs.Writes.{Note, Wrote, WrotePrefix}
+use Rattle.tpz_io.specs.Writes.{Note, Wrote}
 use Rattle.tpz_base.specs.Texts.{Bytes, Face}
 use Rattle.tpz_base.specs.Cubes.{Row}
 use Rattle.ply_body.specs.Inputs.{Refusal, mesh_of}
 use Rattle.diamond_graph.specs.Adding.{most_centres}
 use Rattle.build_pass.specs.Building.{IsBuildable}
 use Rattle.puzzle_cli.specs.declared.building.Summary.{Summary}
-use Rattle.puzzle_cli.specs.declared.status.Status.{Status}
-use Rattle.puzzle_cli.specs.declared.status.Status.TheVariants as status
+use Rattle.run_status.specs.declared.status.Status.{Status}
+use Rattle.run_status.specs.declared.status.Status.TheVariants as status
 use Rattle.puzzle_cli.specs.Build.{build_items, build_note, input_store, params_of, summary_of, IsLeft, IsLeftOver}
 use Rattle.puzzle_cli.specs.Finest.{digits_of, finest_split, input_for, IsAccepted}
 use Rattle.puzzle_cli.specs.Runs.{BuildRun}
-use Rattle.puzzle_cli.specs.Statuses.{status_of, IsOfStore, IsRefused, IsUnbuilt}
+use Rattle.run_status.specs.Statuses.{status_of, IsOfStore, IsRefused, IsUnbuilt}
 use Rattle.puzzle_cli.proofs.Completing.{answered}
 use Rattle.puzzle_cli.proofs.Exports.{none_yet, nothing}
 use Rattle.puzzle_cli.proofs.JobRuns.{never, IsGenAnswer}
@@ -35,7 +35,7 @@ build_unstarted digits cap budget left worked held reads untouched input_failed 
   fault = λ e. absurd cc;
   asked = inl refl;
   complete = λ bytes told h keeps store at none no_input no_work no_store no_out. (λ rows faces means. (λ fits. inr refl, λ past. inr refl), λ r is. inr refl);
-  before = λ a b c d. refl;
+  before = λ a b c d e f. refl;
   after = λ a bytes told h keeps rows faces means. inl refl;
   left_over = inl refl;
   telling = refl;
@@ -63,7 +63,7 @@ module _ (digits : Option ℕ) (cap budget : ℕ) (left worked held held' : Opti
     (work_fault : answer ≡ status.WorkFault → work_failed)
     (damage : (offset : ℕ) → answer ≡ status.WorkDamage offset → worked ≡ None)
     (asked : reads' ≡ one_more reads)
-    (before : ¬ (answer ≡ status.StoreFault) → ¬ (answer ≡ status.Memory) → held' ≡ held)
+    (before : ¬ (answer ≡ status.StoreFault) → ¬ (answer ≡ status.Memory) → ¬ (answer ≡ status.WorkFault) → ((offset : ℕ) → ¬ (answer ≡ status.WorkDamage offset)) → held' ≡ held)
     (after : ForSome left (λ bytes. ForSome worked (λ _. (rows : List Row) (faces : List Face)
     → input_for digits bytes ≡ Ok (record { rows = rows; faces = faces }) → IsLeft held held' (input_store cap budget (digits_of digits bytes) rows faces))))
     (left_over : IsLeftOver held held')
@@ -194,7 +194,7 @@ module _ (digits : Option ℕ) (cap budget : ℕ) (left worked held held' : Opti
           damage = λ offset e. other (status.WorkDamage offset) e (λ f. cc) (λ f. cc) (λ f. cc);
           out = λ e. no_out (out_fault e);
         });
-    before = λ a b c d. absurd (elim is [ inl e ↦ a e | inr k ↦ elim k [ inl e ↦ b e | inr e ↦ d e ] ]);
+    before = λ a b c d w o. absurd (elim is [ inl e ↦ a e | inr k ↦ elim k [ inl e ↦ b e | inr e ↦ d e ] ]);
     after = λ a bytes at holds keeps rows faces means. inr (λ store stored. inr (whole bytes at holds keeps rows faces means store stored));
     left_over = left_over;
     telling = telling;

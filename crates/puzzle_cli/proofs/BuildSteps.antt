@@ -1,10 +1,10 @@
 -- From a stream that was split and built to the store of an input, and from a line to a note.
 use Rattle.std.proofs.Common.{◌≡◌, ◌⊎◌, ℕ, List, [], ◌∷◌, ◌++◌, inl, inr, length, refl, sym, ◌∙◌, ap, ap₂, subst}
-use Rattle.std.specs.Prelude.{◌≤◌, ℤ, unsigned_abs, All, Option, Some, None, Result, Ok, Err, pos}
+use Rattle.std.specs.Prelude.{◌≤◌, ℤ, unsigned_abs, All, Option, Some, None, Result, Err, pos}
 use Rattle.std.specs.List.{slice_index_or}
 use Rattle.tpz_base.specs.declared.shape.Point.{Point}
 use Rattle.tpz_base.specs.Meshes.{Mesh}
-use Rattle.tpz_base.specs.Cubes.{Row, level_bound}
+use Rattle.tpz_base.specs.Cubes.{Row}
 use Rattle.tpz_base.specs.Texts.{Bytes, Face}
 use Rattle.tpz_io.specs.Told.{followed_by}
 use Rattle.tpz_io.specs.Writes.{Note, Wrote}
@@ -26,11 +26,12 @@ use Rattle.tri_stream.specs.Lists.{IsHeld}
 use Rattle.diamond_graph.specs.Adding.{most_centres}
 use Rattle.puzzle_cli.specs.declared.building.Summary.{Summary}
 use Rattle.puzzle_cli.specs.declared.reading.InputStream.{InputStream}
-use Rattle.puzzle_cli.specs.declared.status.Status.{Status}
-use Rattle.puzzle_cli.specs.declared.status.Status.TheVariants as status
+use Rattle.run_status.specs.declared.status.Status.{Status}
+use Rattle.run_status.specs.declared.status.Status.TheVariants as status
 use Rattle.puzzle_cli.specs.Build.{built_of, params_of, stream_params, summary_of}
 use Rattle.puzzle_cli.specs.Readings.{IsSmallStream, IsStreamOf}
-use Rattle.puzzle_cli.specs.Statuses.{build_status, IsUnbuilt, IsUnread}
+use Rattle.run_status.specs.Statuses.{build_status, IsOfStreams, IsRefused, IsUnbuilt, IsUnread}
+use Rattle.run_status.proofs.StreamFaults.{split_never, split_not_refused, split_unbuilt}
 use Rattle.cut_export.proofs.Pieces.{followed_by-nil}
 
 -- a list that is told has bytes that are told
@@ -109,17 +110,49 @@ pub err_is : {X : Type 0} (s t : Status) → ◌≡◌ {A = Result X Status} (Er
 err_is s t is = cc
 
 -- what a store that isn't built is told as
-pub build_told : (s : Status) (f : BuildFault) → s ≡ build_status f → (s ≡ status.Memory) ⊎ ((s ≡ status.TooManyRecords) ⊎ (s ≡ status.StoreFault))
-build_told s build.StoreFault is = inr (inr is)
-build_told s build.Memory is = inl is
+pub build_told : (s : Status) (f : BuildFault) → s ≡ build_status f → (s ≡ status.StoreFault) ⊎ ((s ≡ status.TooManyRecords) ⊎ IsOfStreams s)
+build_told s build.WorkFault is = inr (inr (inr (inl is)))
+build_told s (build.WorkDamage offset) is = inr (inr (inr (inr (offset, is))))
+build_told s build.StoreFault is = inl is
+build_told s build.Memory is = inr (inr (inl is))
 
 pub never_too_many : (s : Status) (f : BuildFault) → s ≡ build_status f → s ≡ status.TooManyRecords → ⊥
+never_too_many s build.WorkFault is many = absurd cc
+never_too_many s (build.WorkDamage offset) is many = absurd cc
 never_too_many s build.StoreFault is many = absurd cc
 never_too_many s build.Memory is many = absurd cc
 
 pub store_fault_told : (s : Status) (f : BuildFault) → s ≡ build_status f → s ≡ status.StoreFault → f ≡ build.StoreFault
+store_fault_told s build.WorkFault is fault = absurd cc
+store_fault_told s (build.WorkDamage offset) is fault = absurd cc
 store_fault_told s build.StoreFault is fault = refl
 store_fault_told s build.Memory is fault = absurd cc
+
+pub build_was_fault : (s : Status) (f : BuildFault) → s ≡ build_status f → s ≡ status.WorkFault → f ≡ build.WorkFault
+build_was_fault s build.WorkFault is e = refl
+build_was_fault s (build.WorkDamage offset) is e = absurd cc
+build_was_fault s build.StoreFault is e = absurd cc
+build_was_fault s build.Memory is e = absurd cc
+
+pub build_was_damage : (s : Status) (f : BuildFault) (offset : ℕ) → s ≡ build_status f → s ≡ status.WorkDamage offset → f ≡ build.WorkDamage offset
+build_was_damage s build.WorkFault offset is e = absurd cc
+build_was_damage s (build.WorkDamage n) offset is e = cc
+build_was_damage s build.StoreFault offset is e = absurd cc
+build_was_damage s build.Memory offset is e = absurd cc
+
+-- what a stream that is stored ends with is no other status
+pub stored_never : {X : Type 0} (s t : Status) → (s ≡ status.StoreFault) ⊎ ((s ≡ status.TooManyRecords) ⊎ IsOfStreams s) → s ≡ t → (status.StoreFault ≡ t → ⊥)
+    → (status.TooManyRecords ≡ t → ⊥) → (status.Memory ≡ t → ⊥) → (status.WorkFault ≡ t → ⊥) → ((offset : ℕ) → status.WorkDamage offset ≡ t → ⊥) → X
+stored_never s t (inl e) is store many memory work damage = absurd (store (sym e ∙ is))
+stored_never s t (inr k) is store many memory work damage = split_never s t k is many memory work damage
+
+pub stored_not_refused : (s : Status) → (s ≡ status.StoreFault) ⊎ ((s ≡ status.TooManyRecords) ⊎ IsOfStreams s) → IsRefused s → ⊥
+stored_not_refused s (inl e) h = subst (λ x. IsRefused x) e h
+stored_not_refused s (inr k) h = split_not_refused s k h
+
+pub stored_unbuilt : (s : Status) → (s ≡ status.StoreFault) ⊎ ((s ≡ status.TooManyRecords) ⊎ IsOfStreams s) → IsUnbuilt s
+stored_unbuilt s (inl e) = subst (λ x. IsUnbuilt x) (sym e) tt
+stored_unbuilt s (inr k) = split_unbuilt s k
 
 -- what ends a reading may end a build
 pub unread_unbuilt : (s : Status) → IsUnread s → IsUnbuilt s

@@ -6,10 +6,10 @@ use Rattle.tpz_base.specs.Texts.{Bytes, Face}
 use Rattle.ply_body.specs.Bodies.{Input}
 use Rattle.ply_body.specs.Inputs.{Refusal}
 use Rattle.diamond_graph.specs.Adding.{most_centres}
-use Rattle.puzzle_cli.specs.declared.status.Status.{Status}
-use Rattle.puzzle_cli.specs.declared.status.Status.TheVariants as status
+use Rattle.run_status.specs.declared.status.Status.{Status}
+use Rattle.run_status.specs.declared.status.Status.TheVariants as status
 use Rattle.puzzle_cli.specs.Finest.{finest_split, input_for, IsAccepted}
-use Rattle.puzzle_cli.specs.Statuses.{status_of, IsRefused, IsOfStore, IsUnread}
+use Rattle.run_status.specs.Statuses.{status_of, IsRefused, IsOfStore, IsUnread}
 
 -- the answer is the input's, or want of memory
 abbrev pub IsAnswer : Option ℕ → Option ℕ → Bytes → Status → Type 0

@@ -15,10 +15,10 @@ use Rattle.patch_file.specs.Tables.{Table}
 use Rattle.patch_file.specs.Stores.{read, numbers, table_of, record_at, read_block}
 use Rattle.patch_file.specs.Asking.{NotesAll}
 use Rattle.patch_file.specs.Reading.{ReaderState, is_spent, place_in, IsOpened}
-use Rattle.puzzle_cli.specs.declared.status.Status.{Status}
-use Rattle.puzzle_cli.specs.declared.status.Status.TheVariants as status
-use Rattle.puzzle_cli.specs.declared.status.ReadAt.TheVariants as read_at
-use Rattle.puzzle_cli.specs.Statuses.{open_status}
+use Rattle.run_status.specs.declared.status.Status.{Status}
+use Rattle.run_status.specs.declared.status.Status.TheVariants as status
+use Rattle.run_status.specs.declared.status.ReadAt.TheVariants as read_at
+use Rattle.run_status.specs.Statuses.{open_status}
 use Rattle.puzzle_cli.specs.Info.{info_items, info_note}
 use Rattle.cut_export.proofs.Pieces.{followed_by-nil}
 

@@ -6,8 +6,8 @@ use Rattle.tpz_base.specs.Texts.{Bytes}
 use Rattle.tpz_base.specs.Cubes.{level_bound}
 use Rattle.ply_body.specs.Inputs.{mesh_of}
 use Rattle.mesh_gen.proofs.Sums.{generated_closed}
-use Rattle.puzzle_cli.specs.declared.jobs.Job.{Job}
-use Rattle.puzzle_cli.specs.declared.jobs.Job.TheVariants.{Finest, Build, Gen, Info, Replay}
+use Rattle.command_words.specs.declared.jobs.Job.{Job}
+use Rattle.command_words.specs.declared.jobs.Job.TheVariants.{Finest, Build, Gen, Info, Replay}
 use Rattle.patch_file.specs.declared.shape.Params.{Params}
 use Rattle.patch_file.specs.declared.shape.StoreBad.{StoreBad}
 use Rattle.patch_file.specs.Asking.{RoseBy}
@@ -15,13 +15,13 @@ use Rattle.patch_file.specs.Tables.{Table}
 use Rattle.patch_file.specs.Stores.{read}
 use Rattle.tpz_io.specs.Writes.{Wrote, WrotePrefix}
 use Rattle.puzzle_cli.specs.Info.{info_items}
-use Rattle.puzzle_cli.specs.declared.status.ReadAt.TheVariants as read_at
-use Rattle.puzzle_cli.specs.declared.status.Status.{Status}
-use Rattle.puzzle_cli.specs.declared.status.Status.TheVariants as status
+use Rattle.run_status.specs.declared.status.ReadAt.TheVariants as read_at
+use Rattle.run_status.specs.declared.status.Status.{Status}
+use Rattle.run_status.specs.declared.status.Status.TheVariants as status
 use Rattle.puzzle_cli.specs.Gen.{gen_items}
 use Rattle.puzzle_cli.specs.Touches.{Devices, touched_by}
 use Rattle.puzzle_cli.specs.Runs.{FinestRun, BuildRun, GenRun, InfoRun, ReplayRun}
-use Rattle.puzzle_cli.proofs.JobRanges.{one_job}
+use Rattle.command_words.proofs.JobRanges.{one_job}
 use Rattle.puzzle_cli.proofs.RootCut.{each_once}
 use Rattle.puzzle_cli.proofs.Exports.{none_yet, nothing}
 

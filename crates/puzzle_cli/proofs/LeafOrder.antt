@@ -1,8 +1,8 @@
 -- What the leaves of a split mesh add to the mesh of its finest cut.
-use Rattle.std.proofs.Common.{◌≡◌, ℕ, ◌+◌, ◌<◌, ◌≤◌, Bool, true, false, cond, not, List, [], ◌∷◌, ◌++◌, take, length, refl, sym, ◌∙◌, ap, ap₂, subst, append_assoc, inl, inr, Option, Some, None, get_or, arith}
+use Rattle.std.proofs.Common.{◌≡◌, ℕ, ◌+◌, ◌<◌, ◌≤◌, true, false, not, List, [], ◌∷◌, ◌++◌, take, refl, sym, ◌∙◌, ap, subst, append_assoc, inl, inr, Option, Some, None, get_or, arith}
 use Rattle.std.specs.Prelude.{filter, flat_map, slice_get, All, IfSome, OnOk, Result, Ok, Err}
 use Rattle.std.specs.FinMap as map
-use Rattle.std.specs.Option.{ForSome, option_map, option_map_or}
+use Rattle.std.specs.Option.{ForSome, option_map_or}
 use Rattle.std.proofs.lemmas.Bool.{cases_Bool}
 use Rattle.std.proofs.lemmas.List.{append-nil, take_all, take_more}
 use Rattle.std.proofs.lemmas.Option.{slice_get_cases, slice_get_within, get_or_from_slice_get}
@@ -10,14 +10,14 @@ use Rattle.std.proofs.lemmas.Grind.{flat_map-append}
 use Rattle.tpz_base.specs.declared.shape.Point.{Point}
 use Rattle.tpz_base.specs.Meshes.{Mesh}
 use Rattle.tpz_base.specs.Tetrahedra.{Tetrahedron, child_0, child_1, children, diamond, members, parts, roots}
-use Rattle.tpz_base.specs.Cuts.{active, cut_mesh, has_diamond}
+use Rattle.tpz_base.specs.Cuts.{cut_mesh, has_diamond}
 use Rattle.tpz_base.specs.Texts.{Bytes}
 use Rattle.tetra_name.specs.declared.shape.Tet.{Tet}
 use Rattle.tetra_name.specs.declared.shape.Half.{Half}
 use Rattle.tetra_name.specs.Names.{child_of, count_of, point_of, root_at, tetrahedron_of, IsName}
 use Rattle.tetra_name.proofs.NameFacts.{some_of}
 use Rattle.tri_stream.specs.declared.names.StreamId.{StreamId}
-use Rattle.tri_stream.specs.Streams.{StreamsState, told_list, IsLive, Stands}
+use Rattle.tri_stream.specs.Streams.{StreamsState, told_list, Stands}
 use Rattle.assign.specs.Names.{LeafTable}
 use Rattle.assign.specs.Leaf.{leaf_patch}
 use Rattle.assign.specs.Standing.{named_patch, HoldsPatches}

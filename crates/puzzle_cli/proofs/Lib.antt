@@ -4,18 +4,11 @@ pub mod ReadLemmas
 pub mod LeafOrder
 pub mod RootCut
 pub mod Filling
-pub mod JobRanges
 pub mod JobRuns
 pub mod Completing
 pub mod BuildRuns
 pub mod BuildSteps
 pub mod SplitMesh
-pub mod WorkedWords
-pub mod Parses
-pub mod Givens
-pub mod Spellings
-pub mod OptionWalks
-pub mod OptionTables
 pub mod InfoLemmas
 mod ShownLaw
 mod OpenLaw
@@ -23,7 +16,3 @@ mod PlayLaw
 mod Progress
 mod ReplayRuns
 mod TourRuns
-pub mod WrittenBodies
-pub mod WrittenTexts
-pub mod WrittenMeshes
-mod WorkedTexts

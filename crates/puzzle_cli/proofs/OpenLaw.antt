@@ -1,5 +1,5 @@
 -- What a reader that was opened says of its table.
-use Rattle.std.proofs.Common.{◌≡◌, ℕ, zero, suc, ◌+◌, ◌*◌, ◌<◌, ◌≤◌, ◌⊎◌, Bool, true, false, not, List, [], ◌∷◌, ◌++◌, map, take, length, get_or, refl, sym, ◌∙◌, ap, ap₂, subst, inl, inr, arith, slice_get, Option, Some, None, Result, Ok, Err}
+use Rattle.std.proofs.Common.{◌≡◌, ℕ, zero, suc, ◌+◌, ◌*◌, ◌<◌, ◌⊎◌, Bool, true, false, not, List, [], ◌∷◌, ◌++◌, map, take, length, get_or, refl, sym, ◌∙◌, ap, ap₂, subst, inl, inr, arith, slice_get, Option, Some, None, Result, Ok, Err}
 use Rattle.std.specs.Prelude.{Contains, flat_map, ◌==◌, if◌then◌else◌}
 use Rattle.std.specs.Int.{bit_at}
 use Rattle.std.specs.Option.{ForSome, option_map, option_map_or, option_and_then, option_or}
@@ -15,27 +15,22 @@ use Rattle.tpz_base.specs.Tetrahedra.{Tetrahedron, diamond, members, parts}
 use Rattle.tpz_base.specs.Cuts.{has_diamond}
 use Rattle.tetra_name.specs.declared.shape.Half.{Half}
 use Rattle.tetra_name.specs.Names.{point_of}
-use Rattle.diamond_graph.specs.Closed.{CanSplit}
 use Rattle.diamond_graph.specs.Graphs.{GraphState, IsGraph, centres}
-use Rattle.patch_file.specs.declared.entry.Place.{Place}
 use Rattle.patch_file.specs.Allowed.{is_right_block}
 use Rattle.patch_file.specs.Patches.{picked, outer_marks, outer_patches}
 use Rattle.patch_file.specs.declared.shape.Params.{Params}
-use Rattle.patch_file.specs.Reading.{patches_of, IsBlockOf, IsGraphOf, IsReaderOf, IsTableOf, ReaderState}
-use Rattle.patch_file.specs.Stores.{read}
-use Rattle.patch_file.specs.Tables.{Contents, Table, TableRecord, centre_of, contents_of, entries_of}
+use Rattle.patch_file.specs.Reading.{patches_of, IsBlockOf, IsTableOf, ReaderState}
+use Rattle.patch_file.specs.Tables.{Contents, Table, TableRecord, centre_of}
 use Rattle.patch_file.proofs.TableOf.{opened_table}
 use Rattle.patch_file.proofs.CutMesh.{contents_read}
-use Rattle.patch_file.proofs.LookUp.{diamonds_are}
 use Rattle.patch_file.proofs.CutRows.{graph_centres}
 use Rattle.patch_file.proofs.Once.{parts-length}
-use Rattle.view_cut.specs.Sets.{centres_at, outer_bit, parts_at, IsConformingSet}
-use Rattle.view_cut.proofs.ActiveLaw.{splits_at, place_there, parts_there}
-use Rattle.puzzle_cli.specs.declared.cut_blocks.Shown.{Shown}
+use Rattle.view_cut.specs.Sets.{centres_at, outer_bit, parts_at}
+use Rattle.view_cut.proofs.ActiveLaw.{splits_at, parts_there}
 use Rattle.puzzle_cli.specs.Plays.{first_wrong, wrong_at, wrong_block}
-use Rattle.puzzle_cli.specs.declared.status.Status.{Status}
-use Rattle.puzzle_cli.specs.declared.status.Status.TheVariants.{BadStore, Memory, ReadFault}
-use Rattle.puzzle_cli.specs.declared.status.ReadAt.TheVariants.{Record}
+use Rattle.run_status.specs.declared.status.Status.{Status}
+use Rattle.run_status.specs.declared.status.Status.TheVariants.{BadStore, Memory, ReadFault}
+use Rattle.run_status.specs.declared.status.ReadAt.TheVariants.{Record}
 use Rattle.patch_file.specs.declared.shape.StoreBad.{StoreBad}
 use Rattle.puzzle_cli.specs.Shown.{bit_picked, outer_patches_at, shown_patches, stored_in, IsNamed, IsOpen}
 use Rattle.puzzle_cli.proofs.ShownLaw.{patch_there, take_next}

@@ -1,7 +1,7 @@
 -- What the lines of a script make of a store, step by step.
-use Rattle.std.proofs.Common.{◌≡◌, ℕ, zero, suc, ◌+◌, ◌*◌, ◌^◌, ◌<◌, ◌≤◌, ◌⊎◌, Bool, true, false, List, [], ◌∷◌, ◌++◌, map, take, length, refl, sym, ◌∙◌, ap, ap₂, subst, inl, inr, arith, slice_get, length-append, Option, Some, None, Result, Ok, Err}
+use Rattle.std.proofs.Common.{◌≡◌, ℕ, zero, suc, ◌+◌, ◌*◌, ◌<◌, ◌≤◌, ◌⊎◌, Bool, true, false, List, [], ◌∷◌, ◌++◌, length, refl, sym, ◌∙◌, ap, ap₂, subst, inl, inr, arith, slice_get, length-append, Option, Some, None, Result, Ok, Err}
 use Rattle.std.specs.Prelude.{Contains, OnErr, OnOk, flat_map, nat_le, unsigned_abs, ℤ, pos}
-use Rattle.std.specs.Option.{ForSome, option_and_then, option_map_or, option_or}
+use Rattle.std.specs.Option.{option_and_then, option_map_or, option_or}
 use Rattle.std.specs.List.{filter_map, cons_option, list_all, slice_index_or}
 use Rattle.std.proofs.lemmas.Bool.{and_parts, leb-true}
 use Rattle.std.proofs.lemmas.List.Elements.{All-contains}
@@ -17,7 +17,7 @@ use Rattle.tpz_base.proofs.CutLaw.{Member}
 use Rattle.diamond_graph.specs.Graphs.{GraphState, centres}
 use Rattle.patch_file.specs.declared.shape.StoreBad.{StoreBad}
 use Rattle.patch_file.specs.Patches.{cut_patches, joined, mesh_of_cut, outer_patches, rows_at}
-use Rattle.patch_file.specs.Reading.{IsGraphOf, IsRightParams, ReaderState}
+use Rattle.patch_file.specs.Reading.{IsGraphOf, ReaderState}
 use Rattle.patch_file.specs.declared.shape.Params.{Params}
 use Rattle.patch_file.specs.Tables.{Contents, Table, TableRecord, entries_of}
 use Rattle.patch_file.specs.Asking.{HasAsked}
@@ -33,17 +33,17 @@ use Rattle.view_cut.specs.Sets.{centres_at, IsConformingSet}
 use Rattle.view_cut.specs.Views.{counted_by, wanted_places}
 use Rattle.view_cut.specs.declared.wanting.View.{View}
 use Rattle.view_cut.proofs.PlaceLaw.{wanted_at}
-use Rattle.puzzle_cli.specs.declared.status.Status.{Status}
-use Rattle.puzzle_cli.specs.declared.status.Status.TheVariants as status
-use Rattle.puzzle_cli.specs.declared.status.ReadAt.TheVariants as read_at
+use Rattle.run_status.specs.declared.status.Status.{Status}
+use Rattle.run_status.specs.declared.status.Status.TheVariants as status
+use Rattle.run_status.specs.declared.status.ReadAt.TheVariants as read_at
 use Rattle.puzzle_cli.specs.declared.cut_blocks.Shown.{Shown}
 use Rattle.puzzle_cli.specs.Plays.{Play, Stored, cut_of, first_wrong, numbers_of, part_of, shows, step, view_at, wrong_at, wrong_block}
 use Rattle.puzzle_cli.specs.declared.replaying.Player.{Player}
 use Rattle.puzzle_cli.specs.Playing.{IsPlaying}
 use Rattle.puzzle_cli.proofs.ShownLaw.{counts_both}
 use Rattle.puzzle_cli.specs.Shown.{all_patches, is_read_fault, outer_patches_at, shown_patches, stored_in, IsOpen}
-use Rattle.puzzle_cli.specs.Statuses.{export_status, IsOfLines}
-use Rattle.puzzle_cli.proofs.OpenLaw.{first_wrong_both, of_table, row_there}
+use Rattle.run_status.specs.Statuses.{export_status, IsOfLines}
+use Rattle.puzzle_cli.proofs.OpenLaw.{of_table, row_there}
 
 -- ---- what a part shows
 

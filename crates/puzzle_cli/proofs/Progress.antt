@@ -1,14 +1,14 @@
 -- A script on its way: the lines that were played, and what is left.
-use Rattle.std.proofs.Common.{◌≡◌, ℕ, zero, suc, ◌+◌, ◌*◌, ◌<◌, ◌≤◌, Bool, true, false, List, [], ◌∷◌, ◌++◌, take, length, refl, sym, ◌∙◌, ap, ap₂, subst, inl, inr, arith, length-append, append_assoc, Option, Some, None}
+use Rattle.std.proofs.Common.{◌≡◌, ℕ, zero, suc, ◌+◌, ◌*◌, ◌≤◌, Bool, true, false, List, [], ◌∷◌, ◌++◌, take, length, refl, sym, ◌∙◌, ap, subst, inl, inr, arith, length-append, append_assoc, Option, Some, None}
 use Rattle.std.specs.Prelude.{Contains}
 use Rattle.std.specs.Option.{ForSome, option_map, option_or}
-use Rattle.std.proofs.lemmas.List.{append-nil, take_all}
+use Rattle.std.proofs.lemmas.List.{append-nil}
 use Rattle.tpz_io.specs.Told.{followed_by}
 use Rattle.tpz_io.specs.Writes.{Item, Note, Part, Wrote, WrotePrefix, notes_of, parts_of}
 use Rattle.tpz_base.specs.Texts.{Bytes}
 use Rattle.tetra_name.proofs.NameFacts.{contains-member, member-contains}
 use Rattle.tpz_base.proofs.CutLaw.{Member}
-use Rattle.cut_export.proofs.Pieces.{followed_by-nil, followed_by-append}
+use Rattle.cut_export.proofs.Pieces.{followed_by-append}
 use Rattle.script_text.specs.declared.line.Line.{Line}
 use Rattle.script_text.specs.declared.line.Line.TheVariants.{Look, Write}
 use Rattle.script_text.specs.Commands.{read_line}
@@ -18,17 +18,17 @@ use Rattle.script_text.specs.declared.script.ScriptFault.TheVariants as scripts
 use Rattle.script_text.proofs.ScriptLemmas.{whole_left}
 use Rattle.tpz_io.specs.Causes.{Rose}
 use Rattle.patch_file.specs.declared.shape.StoreBad.{StoreBad}
-use Rattle.puzzle_cli.specs.declared.status.Status.{Status}
-use Rattle.puzzle_cli.specs.declared.status.Status.TheVariants as status
-use Rattle.puzzle_cli.specs.declared.status.ReadAt.{ReadAt}
-use Rattle.puzzle_cli.specs.Statuses.{script_status, IsOfLines}
+use Rattle.run_status.specs.declared.status.Status.{Status}
+use Rattle.run_status.specs.declared.status.Status.TheVariants as status
+use Rattle.run_status.specs.declared.status.ReadAt.{ReadAt}
+use Rattle.run_status.specs.Statuses.{script_status, IsOfLines}
 use Rattle.patch_file.specs.Asking.{HasAsked}
 use Rattle.patch_file.proofs.AskingLaw.{asked_both, asked_none, asked_refused}
 use Rattle.view_cut.specs.Views.{counted_by}
 use Rattle.puzzle_cli.proofs.Exports.{nothing}
 use Rattle.patch_file.specs.Reading.{ReaderState}
 use Rattle.puzzle_cli.specs.declared.replaying.Player.{Player}
-use Rattle.puzzle_cli.specs.Plays.{Play, Stored, asks, first_wrong, lines_of, part_of, play, played_on, shows, start, step}
+use Rattle.puzzle_cli.specs.Plays.{Play, Stored, asks, first_wrong, lines_of, play, played_on, shows, start, step}
 use Rattle.puzzle_cli.specs.Playing.{HasPlayed, IsPlaying}
 use Rattle.puzzle_cli.specs.Shown.{is_read_fault, stored_in}
 use Rattle.puzzle_cli.proofs.OpenLaw.{first_wrong_both}

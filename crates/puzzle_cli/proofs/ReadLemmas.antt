@@ -1,10 +1,10 @@
 -- The triangles of an input, collected one by one.
 use Rattle.std.proofs.Common.{◌≡◌, ℕ, zero, suc, ◌+◌, ◌*◌, ◌≤◌, Bool, true, false, cond, List, [], ◌∷◌, ◌++◌, length, refl, sym, ◌∙◌, ap, ap₂, subst, arith, append_assoc, Ok, Err, inl, inr}
-use Rattle.std.specs.Prelude.{◌⊎◌, is_some, not, map, take, drop, filter, count_by, All, IsTrue, Result, ℤ, pos, unsigned_abs, slice_index_or}
+use Rattle.std.specs.Prelude.{◌⊎◌, is_some, not, map, min, take, drop, filter, count_by, All, IsTrue, Result, ℤ, pos, unsigned_abs, slice_index_or}
 use Rattle.std.specs.Option.{option_map, ForSome}
 use Rattle.std.specs.declared.option.Option.{Option}
 use Rattle.std.specs.declared.option.Option.TheVariants.{Some, None}
-use Rattle.std.proofs.lemmas.List.{append-nil, map-append, length-map}
+use Rattle.std.proofs.lemmas.List.{append-nil, map-append, length-map, length-take, take-take, take_min}
 use Rattle.std.proofs.lemmas.List.Elements.{All-head, All-tail, filter-append}
 use Rattle.std.proofs.lemmas.List.Sums.{sum_by-append}
 use Rattle.tpz_base.specs.declared.shape.Point.{Point}
@@ -28,10 +28,10 @@ use Rattle.ply_body.specs.Spots.{coordinates, spots_of, rows_bytes, AreSpots, Ho
 use Rattle.ply_body.proofs.SpotRows.{length-rows_bytes}
 use Rattle.ply_body.proofs.CubeRows.{frame_spots}
 use Rattle.ply_body.specs.Readings.{with_faces, with_spots, coming_told, input_told, opened, IsRefusal, Reading}
-use Rattle.puzzle_cli.specs.declared.status.Status.{Status}
-use Rattle.puzzle_cli.specs.declared.status.Status.TheVariants.{WorkDamage}
+use Rattle.run_status.specs.declared.status.Status.{Status}
+use Rattle.run_status.specs.declared.status.Status.TheVariants.{WorkDamage}
 use Rattle.puzzle_cli.specs.Finest.{digits_for, digits_of, input_for}
-use Rattle.puzzle_cli.specs.Statuses.{head_status, body_status, status_of, IsRefused}
+use Rattle.run_status.specs.Statuses.{head_status, body_status, status_of, IsRefused}
 use Rattle.puzzle_cli.specs.Readings.{AreWhole, HasOpened, IsInputLow, IsRefusalTold, TrisTold}
 
 abbrev Coming : Type 0
@@ -300,50 +300,75 @@ small_at (z ∷ zs) (suc i) all = small_at zs i (All-tail (λ z. unsigned_abs z 
 pub low_small : (zs : List ℤ) → All (λ z. unsigned_abs z ≤ 2147483647) zs → IsInputLow zs
 low_small zs all = record { x = small_at zs 0 all; y = small_at zs 1 all; z = small_at zs 2 all }
 
--- what is told before is told later, and what isn't told later wasn't told before
+-- what is told before is told later
 pub told_later : {X : Type 0} (old new : Option X) (x : X) → is_some new ≡ is_some old → old ≡ Some x → (y : X) × (new ≡ Some y)
 told_later old (Some y) x same is = (y, refl)
 told_later old None x same is = absurd (let no : false ≡ true = same ∙ ap is_some is in cc)
 
-pub untold_before : {X : Type 0} (old new : Option X) → is_some new ≡ is_some old → new ≡ None → old ≡ None
-untold_before None new same is = refl
-untold_before (Some x) new same is = absurd (let no : true ≡ false = sym same ∙ ap is_some is in cc)
+-- What is told later begins with what was told before a base, as far as that went.
+abbrev pub KeepsFront : ℕ → Option Bytes → Option Bytes → Type 0
+KeepsFront base before now = Changes (λ bytes bytes'. take (min base (length bytes)) bytes' ≡ take base bytes) before now
+
+-- bytes that hold rows are as long as they
+rows_long : (rows : List Row) (bytes : Bytes) → HoldsRows rows bytes → 12 * length rows ≤ length bytes
+rows_long rows bytes holds =
+    let len = length-rows_bytes rows in
+    let cut = length-take (length (rows_bytes rows)) bytes in
+    let same = ap length holds in
+    omega arith
 
 -- bytes with the same front hold the same rows
-rows_kept : (base : ℕ) (bytes bytes' : Bytes) (rows : List Row) → base ≡ 12 * length rows → take base bytes' ≡ take base bytes → HoldsRows rows bytes → HoldsRows rows bytes'
+rows_kept : (base : ℕ) (bytes bytes' : Bytes) (rows : List Row) → base ≡ 12 * length rows → take (min base (length bytes)) bytes' ≡ take base bytes
+    → HoldsRows rows bytes → HoldsRows rows bytes'
 rows_kept base bytes bytes' rows size same holds =
     let len : length (rows_bytes rows) ≡ base = length-rows_bytes rows ∙ sym size in
-    ap (λ n. take n bytes') len ∙ same ∙ ap (λ n. take n bytes) (sym len) ∙ holds
+    let long = rows_long rows bytes holds in
+    let all : base ≡ min base (length bytes) = omega arith in
+    ap (λ n. take n bytes') (len ∙ all) ∙ same ∙ ap (λ n. take n bytes) (sym len) ∙ holds
 
 -- what is given by the points that a blob holds later is given by those that it held before, where its front is kept
 pub given_before : (frame : Frame) (base : ℕ) (before now : Option Bytes) (lost : List Face) (face : Face) (t : Tri)
-    → Changes (λ bytes bytes'. take base bytes' ≡ take base bytes) before now → base ≡ 12 * frame.vertices → OneGiven frame now lost face t → OneGiven frame before lost face t
+    → KeepsFront base before now → base ≡ 12 * frame.vertices → OneGiven frame now lost face t → OneGiven frame before lost face t
 given_before frame base before now lost face t changes size given = λ bytes told low rows is holds.
     let later = told_later before now bytes changes.same_telling told in
     given later.0 later.1 low rows is (rows_kept base bytes later.0 rows (size ∙ ap (λ n. 12 * n) is.vertices) (changes.change bytes later.0 told later.1) holds)
 
 pub lost_before : (frame : Frame) (base : ℕ) (before now : Option Bytes) (lost : List Face)
-    → Changes (λ bytes bytes'. take base bytes' ≡ take base bytes) before now → base ≡ 12 * frame.vertices → AllLost frame now lost → AllLost frame before lost
+    → KeepsFront base before now → base ≡ 12 * frame.vertices → AllLost frame now lost → AllLost frame before lost
 lost_before frame base before now lost changes size given = λ bytes told low rows is holds.
     let later = told_later before now bytes changes.same_telling told in
     given later.0 later.1 low rows is (rows_kept base bytes later.0 rows (size ∙ ap (λ n. 12 * n) is.vertices) (changes.change bytes later.0 told later.1) holds)
 
 pub points_kept : (frame : Frame) (base : ℕ) (before now : Option Bytes)
-    → Changes (λ bytes bytes'. take base bytes' ≡ take base bytes) before now → base ≡ 12 * frame.vertices → ForSome before (HoldsPoints frame) → ForSome now (HoldsPoints frame)
+    → KeepsFront base before now → base ≡ 12 * frame.vertices → ForSome before (HoldsPoints frame) → ForSome now (HoldsPoints frame)
 points_kept frame base before now changes size points = λ bytes told.
     let first = told_later now before bytes (sym changes.same_telling) told in
     let p = points first.0 first.1 in
     (p.0, p.1, p.2, rows_kept base first.0 bytes p.1 (size ∙ ap (λ n. 12 * n) p.2.vertices) (changes.change first.0 bytes first.1 told) p.3)
 
-pub same_front : (base : ℕ) (told : Option Bytes) → Changes (λ bytes bytes'. take base bytes' ≡ take base bytes) told told
-same_front base told = record { same_telling = refl; change = λ x y is is'. ap (take base) (some_same (sym is' ∙ is)) }
+pub same_front : (base : ℕ) (told : Option Bytes) → KeepsFront base told told
+same_front base told = record {
+  same_telling = refl;
+  change = λ x y is is'. ap (take (min base (length x))) (some_same (sym is' ∙ is)) ∙ take_min base x;
+}
+
+front_twice : (base : ℕ) (x y z : Bytes) → take (min base (length x)) y ≡ take base x → take (min base (length y)) z ≡ take base y
+    → take (min base (length x)) z ≡ take base x
+front_twice base x y z first second =
+    let n = min base (length x) in
+    let long = ap length first in
+    let cut = length-take n y in
+    let cut' = length-take base x in
+    let below : n ≤ min base (length y) = omega arith in
+    let within : n ≤ base = omega arith in
+    sym (take-take n (min base (length y)) z below) ∙ ap (take n) second ∙ take-take n base y within ∙ first
 
 -- the front is kept from one to the next
-pub fronts_join : (base base' : ℕ) (x y z : Option Bytes) → base' ≡ base → Changes (λ bytes bytes'. take base bytes' ≡ take base bytes) x y
-    → Changes (λ bytes bytes'. take base' bytes' ≡ take base' bytes) y z → Changes (λ bytes bytes'. take base bytes' ≡ take base bytes) x z
+pub fronts_join : (base base' : ℕ) (x y z : Option Bytes) → base' ≡ base → KeepsFront base x y → KeepsFront base' y z → KeepsFront base x z
 fronts_join base base' x y z same first second = record {
   same_telling = second.same_telling ∙ first.same_telling;
   change = λ bytes bytes' told told'.
       let mid = told_later x y bytes first.same_telling told in
-      subst (λ n. take n bytes' ≡ take n mid.0) same (second.change mid.0 bytes' mid.1 told') ∙ first.change bytes mid.0 told mid.1;
+      front_twice base bytes mid.0 bytes' (first.change bytes mid.0 told mid.1)
+      (subst (λ n. take (min n (length mid.0)) bytes' ≡ take n mid.0) same (second.change mid.0 bytes' mid.1 told'));
 }

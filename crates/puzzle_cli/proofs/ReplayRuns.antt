@@ -1,6 +1,6 @@
 -- What holds of a replay, by what its opening, its lines and its note say.
-use Rattle.std.proofs.Common.{◌≡◌, ℕ, zero, suc, ◌+◌, ◌*◌, ◌^◌, ◌<◌, ◌≤◌, ◌⊎◌, Bool, true, false, List, [], ◌∷◌, ◌++◌, map, take, length, replicate, slice_get, refl, sym, ◌∙◌, ap, ap₂, subst, inl, inr, arith, Option, Some, None, Result, Ok, Err}
-use Rattle.std.specs.Prelude.{◌-◌, Contains, filter, max, min}
+use Rattle.std.proofs.Common.{◌≡◌, ℕ, zero, suc, ◌+◌, ◌*◌, ◌^◌, ◌≤◌, ◌⊎◌, Bool, true, false, List, [], ◌∷◌, length, slice_get, refl, sym, ◌∙◌, ap, ap₂, subst, inl, inr, arith, Option, Some, None, Result, Ok, Err}
+use Rattle.std.specs.Prelude.{◌-◌, Contains, filter, min}
 use Rattle.std.proofs.lemmas.List.{append-nil}
 use Rattle.diamond_graph.specs.Graphs.{counted_on}
 use Rattle.std.specs.Option.{ForSome, option_and_then, option_or}
@@ -17,7 +17,7 @@ use Rattle.build_pass.proofs.RepresentativeLaw.{table_finest, table_keeps_border
 use Rattle.build_pass.proofs.StoreTrip.{store_trip, table_allowed}
 use Rattle.puzzle_cli.specs.Replay.{IsFaithful}
 use Rattle.std.proofs.Math.Nat.{mul-le-mul_right}
-use Rattle.tpz_io.specs.Writes.{Item, Note, Wrote, WrotePrefix}
+use Rattle.tpz_io.specs.Writes.{Note, Wrote, WrotePrefix}
 use Rattle.tpz_base.specs.declared.shape.Point.{Point}
 use Rattle.tpz_base.specs.Texts.{Bytes}
 use Rattle.tpz_base.specs.Cuts.{has_diamond}
@@ -34,20 +34,20 @@ use Rattle.patch_file.specs.Asking.{risen, HasAsked, HasCounted, RoseBy}
 use Rattle.patch_file.specs.Patches.{diamonds_of, IsTableCut}
 use Rattle.patch_file.specs.Reading.{ReaderState, is_spent, IsOpened}
 use Rattle.patch_file.specs.Stores.{read}
-use Rattle.patch_file.specs.Tables.{Table, TableRecord, centre_of, entries_of}
+use Rattle.patch_file.specs.Tables.{Table, TableRecord, entries_of}
 use Rattle.patch_file.proofs.AskingLaw.{asked_both, rose_by}
 use Rattle.patch_file.proofs.LookUp.{diamonds_are}
 use Rattle.patch_file.proofs.SoundLaw.{sound}
 use Rattle.puzzle_cli.specs.declared.replaying.Player.{Player}
-use Rattle.puzzle_cli.specs.declared.status.Status.{Status}
-use Rattle.puzzle_cli.specs.declared.status.Status.TheVariants as status
-use Rattle.puzzle_cli.specs.declared.status.ReadAt.{ReadAt}
-use Rattle.puzzle_cli.specs.declared.status.ReadAt.TheVariants as read_at
-use Rattle.puzzle_cli.specs.Plays.{Play, Stored, cut_of, end_of, first_wrong, lines_of, played, replay_note, tests_of, wrong_at, wrong_block}
-use Rattle.puzzle_cli.specs.Playing.{HasPlayed, IsPlaying}
+use Rattle.run_status.specs.declared.status.Status.{Status}
+use Rattle.run_status.specs.declared.status.Status.TheVariants as status
+use Rattle.run_status.specs.declared.status.ReadAt.{ReadAt}
+use Rattle.run_status.specs.declared.status.ReadAt.TheVariants as read_at
+use Rattle.puzzle_cli.specs.Plays.{Stored, cut_of, end_of, first_wrong, lines_of, played, replay_note, tests_of, wrong_at, wrong_block}
+use Rattle.puzzle_cli.specs.Playing.{HasPlayed}
 use Rattle.puzzle_cli.specs.Runs.{HasReplayed, ReplayRun}
 use Rattle.puzzle_cli.specs.Shown.{is_read_fault, stored_in, AreCounted, IsOpen}
-use Rattle.puzzle_cli.specs.Statuses.{open_status, IsOfLines, IsOfReplay}
+use Rattle.run_status.specs.Statuses.{open_status, IsOfLines, IsOfReplay}
 use Rattle.puzzle_cli.proofs.Exports.{none_yet, nothing}
 use Rattle.puzzle_cli.proofs.InfoLemmas.{ends_failed, refused_by_open}
 use Rattle.puzzle_cli.proofs.JobRuns.{IsGenAnswer, never}

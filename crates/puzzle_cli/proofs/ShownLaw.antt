@@ -1,6 +1,6 @@
 -- The patches that are shown of blocks, and the reads that they were asked by.
-use Rattle.std.proofs.Common.{◌≡◌, ℕ, zero, suc, ◌+◌, ◌-◌, ◌*◌, ◌^◌, ◌<◌, ◌≤◌, ◌⊎◌, Bool, true, false, cond, List, [], ◌∷◌, ◌++◌, map, take, length, get_or, replicate, refl, sym, ◌∙◌, ap, ap₂, subst, inl, inr, arith, append_assoc, slice_get, length-append, Option, Some, None}
-use Rattle.std.specs.Prelude.{Ok, Err, Result, is_ok, IsErr, flat_map, All, ◌==◌, if◌then◌else◌, min, max}
+use Rattle.std.proofs.Common.{◌≡◌, ℕ, zero, suc, ◌+◌, ◌<◌, ◌≤◌, Bool, true, false, List, [], ◌∷◌, ◌++◌, take, length, replicate, refl, sym, ◌∙◌, ap, subst, arith, append_assoc, slice_get, length-append, Option, Some}
+use Rattle.std.specs.Prelude.{Ok, Err, Result, is_ok, IsErr, flat_map, ◌==◌, if◌then◌else◌}
 use Rattle.std.specs.Int.{bit_at}
 use Rattle.std.specs.Result.{IsErrAnd}
 use Rattle.std.proofs.lemmas.List.{append-nil, take_more, length-take-le, length-replicate}
@@ -9,12 +9,12 @@ use Rattle.std.proofs.lemmas.Option.{slice_get_within, get_or_from_slice_get}
 use Rattle.tpz_base.specs.Meshes.{Mesh}
 use Rattle.patch_view.specs.declared.PatchView.{PatchView}
 use Rattle.patch_view.specs.Views.{mesh_of}
-use Rattle.patch_file.specs.Asking.{risen, failures, Asks, HasAsked}
-use Rattle.patch_file.proofs.AskingLaw.{asks_both, asked_both, asked_refused, asked_some, failures_both}
+use Rattle.patch_file.specs.Asking.{failures, Asks, HasAsked}
+use Rattle.patch_file.proofs.AskingLaw.{asks_both, asked_refused, failures_both}
 use Rattle.view_cut.specs.Views.{counted_by}
 use Rattle.diamond_graph.specs.Graphs.{counted_on}
-use Rattle.puzzle_cli.specs.declared.status.Status.{Status}
-use Rattle.puzzle_cli.specs.declared.status.Status.TheVariants.{Memory}
+use Rattle.run_status.specs.declared.status.Status.{Status}
+use Rattle.run_status.specs.declared.status.Status.TheVariants.{Memory}
 use Rattle.puzzle_cli.specs.Shown.{bit_picked, is_read_fault, is_unread, AreCounted}
 use Rattle.patch_file.specs.Patches.{joined}
 

@@ -1,6 +1,5 @@
 -- The mesh that is split by a cap is that of its finest cut.
 use Rattle.std.proofs.Common.{◌≡◌, ℕ, ◌≤◌, ◌<◌, List, length, refl, sym, ◌∙◌, ap, ap₂, subst, Option, Some}
-use Rattle.std.specs.Prelude.{IsSome}
 use Rattle.std.specs.Option.{unwrap_or}
 use Rattle.tpz_base.specs.declared.shape.Point.{Point}
 use Rattle.tpz_base.specs.Meshes.{Mesh}
@@ -15,9 +14,9 @@ use Rattle.assign.specs.Splits.{split_set}
 use Rattle.assign.specs.Standing.{HoldsPatches}
 use Rattle.split_pass.specs.declared.fault.SplitFault.{SplitFault}
 use Rattle.split_pass.specs.declared.fault.SplitFault.TheVariants as split
-use Rattle.puzzle_cli.specs.declared.status.Status.TheVariants.{TooManyRecords}
+use Rattle.run_status.specs.declared.status.Status.TheVariants.{TooManyRecords}
 use Rattle.puzzle_cli.specs.Finest.{mesh_for}
-use Rattle.puzzle_cli.specs.Statuses.{split_status}
+use Rattle.run_status.specs.Statuses.{split_status}
 
 pub split_mesh : (l cap : ℕ) (tris : Mesh) (graph : GraphState) (level : ℕ) (leaves : LeafTable) (s : StreamsState) (told : Option Bytes) (N : Mesh)
     → level ≡ l → graph.l ≡ level → centres graph ≡ split_set level cap tris → HoldsPatches level (split_set level cap tris) tris leaves s told
@@ -39,6 +38,8 @@ many_split l cap level tris same many = subst (λ (n : ℕ). most_centres < leng
 
 pub split_too_many : (f : SplitFault) → split_status f ≡ TooManyRecords → f ≡ split.TooManyRecords
 split_too_many split.TooManyRecords is = refl
+split_too_many split.WorkFault is = absurd cc
+split_too_many (split.WorkDamage offset) is = absurd cc
 split_too_many split.Memory is = absurd cc
 
 pub counted_size : (o : Option ℕ) (n : ℕ) → o ≡ Some n → unwrap_or o 0 ≡ n

@@ -1,6 +1,6 @@
 -- What holds of a tour, by its build and its replay.
-use Rattle.std.proofs.Common.{◌≡◌, ◌⊎◌, ℕ, ◌+◌, ◌≤◌, ◌<◌, length, Bool, List, [], refl, sym, ◌∙◌, ap, subst, inl, inr, arith, Option, Some, None}
-use Rattle.std.specs.Prelude.{Result, Ok, Err}
+use Rattle.std.proofs.Common.{◌≡◌, ◌⊎◌, ℕ, ◌≤◌, ◌<◌, length, Bool, List, [], refl, sym, ◌∙◌, ap, subst, inl, inr, arith, Option, Some, None}
+use Rattle.std.specs.Prelude.{Ok, Err}
 use Rattle.std.specs.Option.{ForSome}
 use Rattle.tpz_base.specs.Cubes.{Row}
 use Rattle.ply_head.specs.declared.fault.HeadFault.TheVariants as head
@@ -13,16 +13,16 @@ use Rattle.puzzle_cli.specs.Build.{params_of}
 use Rattle.puzzle_cli.specs.Finest.{digits_of, finest_split, input_for}
 use Rattle.puzzle_cli.specs.Plays.{Stored, end_of, lines_of, played}
 use Rattle.puzzle_cli.specs.Replay.{IsFaithful}
-use Rattle.puzzle_cli.specs.Statuses.{status_of}
+use Rattle.run_status.specs.Statuses.{status_of}
 use Rattle.puzzle_cli.proofs.ReadLemmas.{told_later}
 use Rattle.tpz_io.specs.Causes.{Rose}
 use Rattle.tpz_io.specs.Writes.{Wrote}
 use Rattle.tpz_base.specs.Texts.{Bytes, Face}
 use Rattle.patch_file.specs.Asking.{RoseBy}
-use Rattle.puzzle_cli.specs.declared.jobs.Job.{Job}
-use Rattle.puzzle_cli.specs.declared.jobs.Job.TheVariants.{Tour}
-use Rattle.puzzle_cli.specs.declared.status.Status.{Status}
-use Rattle.puzzle_cli.specs.declared.status.Status.TheVariants as status
+use Rattle.command_words.specs.declared.jobs.Job.{Job}
+use Rattle.command_words.specs.declared.jobs.Job.TheVariants.{Tour}
+use Rattle.run_status.specs.declared.status.Status.{Status}
+use Rattle.run_status.specs.declared.status.Status.TheVariants as status
 use Rattle.puzzle_cli.specs.Runs.{BuildRun, ReplayRun, TourRun}
 use Rattle.puzzle_cli.proofs.BuildRuns.{build_unstarted}
 use Rattle.puzzle_cli.proofs.Exports.{nothing}

@@ -4,7 +4,6 @@ use Rattle.std.specs.Option.{ForSome}
 use Rattle.std.specs.declared.string.String.{String}
 use Rattle.std.specs.declared.alloc.Global.{Global}
 use Rattle.tpz_io.specs.Writes.{Item, Note}
-use Rattle.tpz_base.specs.declared.shape.Point.{Point}
 use Rattle.tpz_base.specs.Meshes.{Mesh}
 use Rattle.tpz_base.specs.Cubes.{Row, low_of, level_bound}
 use Rattle.tpz_base.specs.Texts.{Bytes, Face}
@@ -19,9 +18,8 @@ use Rattle.build_pass.specs.declared.pass.Built.{Built}
 use Rattle.build_pass.specs.Building.{greatest_fine, store_of}
 use Rattle.puzzle_cli.specs.declared.building.Summary.{Summary}
 use Rattle.puzzle_cli.specs.declared.reading.InputStream.{InputStream}
-use Rattle.puzzle_cli.specs.declared.jobs.Job.TheVariants.{Build}
-use Rattle.puzzle_cli.specs.Finest.{finest_split}
-use Rattle.puzzle_cli.specs.Words.{asked}
+use Rattle.command_words.specs.declared.jobs.Job.TheVariants.{Build}
+use Rattle.command_words.specs.Words.{asked}
 
 -- the words ask for `build` with these digits, cap and budget
 abbrev pub AsksBuild : List (String Global) → Option ℕ → ℕ → ℕ → Type 0

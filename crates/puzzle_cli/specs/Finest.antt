@@ -18,8 +18,8 @@ use Rattle.assign.specs.Leaf.{leaf_patch}
 use Rattle.assign.specs.Splits.{split_set}
 use Rattle.puzzle_cli.specs.declared.reading.InputMesh.{InputMesh}
 use Rattle.puzzle_cli.specs.declared.reading.Facts.{Facts}
-use Rattle.puzzle_cli.specs.declared.jobs.Job.TheVariants.{Finest}
-use Rattle.puzzle_cli.specs.Words.{asked}
+use Rattle.command_words.specs.declared.jobs.Job.TheVariants.{Finest}
+use Rattle.command_words.specs.Words.{asked}
 use Rattle.cut_export.specs.Parts.{row_of}
 
 -- the words ask for `finest` with these digits and this cap

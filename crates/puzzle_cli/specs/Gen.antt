@@ -5,8 +5,8 @@ use Rattle.std.specs.declared.alloc.Global.{Global}
 use Rattle.tpz_io.specs.Writes.{Item}
 use Rattle.tpz_base.specs.Texts.{Bytes}
 use Rattle.mesh_gen.specs.Generator.{generated}
-use Rattle.puzzle_cli.specs.declared.jobs.Job.TheVariants.{Gen}
-use Rattle.puzzle_cli.specs.Words.{asked}
+use Rattle.command_words.specs.declared.jobs.Job.TheVariants.{Gen}
+use Rattle.command_words.specs.Words.{asked}
 use Rattle.cut_export.specs.Parts.{row_at}
 use Rattle.puzzle_cli.specs.Exports.{mesh_items}
 

@@ -6,8 +6,8 @@ use Rattle.tpz_io.specs.Writes.{Item, Note}
 use Rattle.tpz_base.specs.Texts.{Bytes}
 use Rattle.patch_file.specs.declared.shape.Params.{Params}
 use Rattle.patch_file.specs.Tables.{Table}
-use Rattle.puzzle_cli.specs.declared.jobs.Job.TheVariants.{Info}
-use Rattle.puzzle_cli.specs.Words.{asked}
+use Rattle.command_words.specs.declared.jobs.Job.TheVariants.{Info}
+use Rattle.command_words.specs.Words.{asked}
 
 -- the words ask for `info` with so many tries
 abbrev pub AsksInfo : List (String Global) → ℕ → Type 0

@@ -1,5 +1,5 @@
 -- The leaves of a mesh that is split, and the order in which its finest cut goes through them.
-use Rattle.std.specs.Prelude.{◌≡◌, ◌≢◌, ℕ, ◌+◌, false, List, [], ◌++◌, length, flat_map, is_some, Option, Some, None, if◌then◌else◌}
+use Rattle.std.specs.Prelude.{◌≡◌, ◌≢◌, ℕ, ◌+◌, List, [], ◌++◌, length, flat_map, is_some, Option, Some, if◌then◌else◌}
 use Rattle.std.specs.FinMap as map
 use Rattle.std.specs.Option.{ForSome, option_map}
 use Rattle.tpz_base.specs.declared.shape.Point.{Point}
@@ -8,7 +8,6 @@ use Rattle.tpz_base.specs.Tetrahedra.{Tetrahedron, diamond}
 use Rattle.tpz_base.specs.Cuts.{has_diamond}
 use Rattle.tpz_base.specs.Texts.{Bytes}
 use Rattle.tetra_name.specs.declared.shape.Tet.{Tet}
-use Rattle.tetra_name.specs.Names.{tetrahedron_of}
 use Rattle.tri_stream.specs.declared.names.StreamId.{StreamId}
 use Rattle.tri_stream.specs.Streams.{StreamsState, count_of, told_list, total, IsLive, Stands}
 use Rattle.assign.specs.Names.{LeafTable}

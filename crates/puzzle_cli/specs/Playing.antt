@@ -1,5 +1,5 @@
 -- A replay on its way.
-use Rattle.std.specs.Prelude.{◌≡◌, ℕ, ◌*◌, List, None, length}
+use Rattle.std.specs.Prelude.{◌≡◌, ◌*◌, List, None, length}
 use Rattle.std.specs.declared.option.Option.{Option}
 use Rattle.tpz_io.specs.Writes.{Wrote}
 use Rattle.tpz_base.specs.Texts.{Bytes}

@@ -1,5 +1,5 @@
 -- What the lines of a script make of a store.
-use Rattle.std.specs.Prelude.{ℕ, suc, ◌*◌, length, List, [], ◌∷◌, ◌++◌, slice_get, Option, Some, None, option_map, option_and_then, Result, Ok, Err, codes, decimal, ℤ, ◌-ℤ◌}
+use Rattle.std.specs.Prelude.{ℕ, suc, ◌*◌, length, List, [], ◌∷◌, ◌++◌, slice_get, Option, Some, None, option_and_then, Result, Ok, Err, codes, decimal, ℤ, ◌-ℤ◌}
 use Rattle.std.specs.Option.{option_or}
 use Rattle.tpz_io.specs.Writes.{Item, Part}
 use Rattle.tpz_base.specs.declared.shape.Point.{Point}
@@ -13,8 +13,8 @@ use Rattle.script_text.specs.Scripts.{ScriptLines, script}
 use Rattle.cut_export.specs.Parts.{row_of}
 use Rattle.patch_file.specs.declared.shape.Params.{Params}
 use Rattle.patch_file.specs.declared.shape.StoreBad.TheVariants.{BadBlock}
-use Rattle.puzzle_cli.specs.declared.status.Status.{Status}
-use Rattle.puzzle_cli.specs.declared.status.Status.TheVariants as status
+use Rattle.run_status.specs.declared.status.Status.{Status}
+use Rattle.run_status.specs.declared.status.Status.TheVariants as status
 use Rattle.patch_file.specs.Tables.{Table, TableRecord, Contents, entries_of}
 use Rattle.patch_file.specs.Patches.{mesh_of_cut}
 

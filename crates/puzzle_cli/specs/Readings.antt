@@ -15,9 +15,9 @@ use Rattle.tri_stream.specs.declared.names.StreamId.{StreamId}
 use Rattle.tri_stream.specs.Streams.{count_of, told_list, total, IsLive, Stands}
 use Rattle.puzzle_cli.specs.declared.reading.InputMesh.{InputMesh}
 use Rattle.puzzle_cli.specs.declared.reading.InputStream.{InputStream}
-use Rattle.puzzle_cli.specs.declared.status.Status.{Status}
+use Rattle.run_status.specs.declared.status.Status.{Status}
 use Rattle.puzzle_cli.specs.Finest.{digits_of, input_for}
-use Rattle.puzzle_cli.specs.Statuses.{body_status}
+use Rattle.run_status.specs.Statuses.{body_status}
 
 -- The whole triangles among those of some faces, by the points that are held, and how many aren't whole.
 abbrev pub AreWhole : Frame → Option Bytes → List Face → Mesh → ℕ → Type 0

@@ -2,7 +2,7 @@
 use Rattle.std.specs.Prelude.{◌≡◌, ℕ, true, List, Option, None, map, string_bytes, Some, Ok}
 use Rattle.std.specs.declared.string.String.{String}
 use Rattle.std.specs.declared.alloc.Global.{Global}
-use Rattle.puzzle_cli.specs.declared.jobs.Job.TheVariants.{Replay, Tour}
+use Rattle.command_words.specs.declared.jobs.Job.TheVariants.{Replay, Tour}
 use Rattle.tpz_base.specs.declared.shape.Point.{Point}
 use Rattle.tpz_base.specs.Meshes.{Mesh, has_vertex, SameBorder, SameTriangles}
 use Rattle.tpz_base.specs.Texts.{Bytes}
@@ -13,7 +13,7 @@ use Rattle.patch_file.specs.Stores.{read}
 use Rattle.build_pass.specs.Building.{table}
 use Rattle.view_cut.specs.declared.wanting.View.{View}
 use Rattle.puzzle_cli.specs.Plays.{cut_of, first_wrong}
-use Rattle.puzzle_cli.specs.Words.{asked}
+use Rattle.command_words.specs.Words.{asked}
 
 -- the words ask for `replay` with so many tries
 abbrev pub AsksReplay : List (String Global) → ℕ → Type 0

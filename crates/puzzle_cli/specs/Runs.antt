@@ -19,18 +19,18 @@ use Rattle.patch_file.specs.declared.shape.StoreBad.TheVariants.{BadBlock}
 use Rattle.patch_file.specs.Asking.{risen, RoseBy}
 use Rattle.patch_file.specs.Patches.{IsTableCut}
 use Rattle.view_cut.specs.declared.wanting.View.{View}
-use Rattle.puzzle_cli.specs.declared.status.ReadAt.{ReadAt}
+use Rattle.run_status.specs.declared.status.ReadAt.{ReadAt}
 use Rattle.build_pass.specs.Building.{store_of, IsBuildable}
 use Rattle.puzzle_cli.specs.Replay.{IsFaithful}
 use Rattle.puzzle_cli.specs.Plays.{Stored, cut_of, end_of, first_wrong, lines_of, played, replay_note, tests_of, wrong_at}
-use Rattle.puzzle_cli.specs.declared.status.Status.{Status}
-use Rattle.puzzle_cli.specs.declared.status.Status.TheVariants as status
-use Rattle.puzzle_cli.specs.declared.status.ReadAt.TheVariants as read_at
+use Rattle.run_status.specs.declared.status.Status.{Status}
+use Rattle.run_status.specs.declared.status.Status.TheVariants as status
+use Rattle.run_status.specs.declared.status.ReadAt.TheVariants as read_at
 use Rattle.puzzle_cli.specs.Finest.{digits_of, finest_mesh, finest_items, finest_split, input_for, IsAccepted}
 use Rattle.puzzle_cli.specs.Build.{build_items, input_store, params_of, IsLeft, IsLeftOver}
 use Rattle.puzzle_cli.specs.Gen.{gen_items}
 use Rattle.puzzle_cli.specs.Info.{info_items}
-use Rattle.puzzle_cli.specs.Statuses.{status_of, IsRefused}
+use Rattle.run_status.specs.Statuses.{status_of, IsRefused}
 
 -- a run of `finest`
 pub record FinestRun (digits cap : Option ℕ) (left held : Option Bytes) (input_failed work_failed out_failed : Type 0) (p0 p1 : Option (List Bytes)) (n0 n1 : Option Bytes) (answer : Status) : Type 0 where
@@ -91,7 +91,8 @@ pub record BuildRun (digits : Option ℕ) (cap budget : ℕ) (left worked held h
       × (most_centres < length (finest_split (Some cap) rows faces) → (answer ≡ status.TooManyRecords) ⊎ (answer ≡ status.Memory)))
       × ((r : Refusal) → input_for digits bytes ≡ Err r → (answer ≡ status_of r) ⊎ (answer ≡ status.Memory)))))
   -- what is left of the store: before it is begun it stays, and then it reads as too short or unfinished, or is whole
-  pub before : ¬ (answer ≡ status.Ok) → ¬ (answer ≡ status.OutFault) → ¬ (answer ≡ status.StoreFault) → ¬ (answer ≡ status.Memory) → held' ≡ held
+  pub before : ¬ (answer ≡ status.Ok) → ¬ (answer ≡ status.OutFault) → ¬ (answer ≡ status.StoreFault) → ¬ (answer ≡ status.Memory)
+      → ¬ (answer ≡ status.WorkFault) → ((offset : ℕ) → ¬ (answer ≡ status.WorkDamage offset)) → held' ≡ held
   pub after : ¬ (answer ≡ status.Ok) → ForSome left (λ bytes. ForSome worked (λ _. (rows : List Row) (faces : List Face)
       → input_for digits bytes ≡ Ok (record { rows = rows; faces = faces }) → IsLeft held held' (input_store cap budget (digits_of digits bytes) rows faces)))
   pub left_over : IsLeftOver held held'

@@ -1,7 +1,7 @@
 -- The patches that a cut shows of a store's blocks.
-use Rattle.std.specs.Prelude.{◌≡◌, ◌==◌, ℕ, suc, Bool, true, false, not, List, [], ◌∷◌, ◌++◌, length, map, flat_map, slice_get, Option, Some, None, Result, Ok, Err, if◌then◌else◌}
+use Rattle.std.specs.Prelude.{◌≡◌, ◌==◌, ℕ, suc, Bool, true, false, List, [], ◌∷◌, length, flat_map, slice_get, Option, Result, Ok, Err, if◌then◌else◌}
 use Rattle.std.specs.Int.{bit_at}
-use Rattle.std.specs.Option.{ForSome, option_map_or}
+use Rattle.std.specs.Option.{option_map_or}
 use Rattle.tpz_base.specs.declared.shape.Point.{Point}
 use Rattle.tpz_base.specs.Meshes.{Mesh}
 use Rattle.tpz_base.specs.Tetrahedra.{parts}
@@ -11,13 +11,13 @@ use Rattle.diamond_graph.specs.Graphs.{GraphState}
 use Rattle.patch_file.specs.Patches.{outer_patches}
 use Rattle.patch_file.specs.Reading.{ReaderState, IsOpened}
 use Rattle.patch_file.specs.Stores.{table_of}
-use Rattle.patch_file.specs.Tables.{Table, TableRecord}
+use Rattle.patch_file.specs.Tables.{Table}
 use Rattle.patch_file.specs.Asking.{risen}
 use Rattle.tpz_base.specs.Texts.{Bytes}
 use Rattle.view_cut.specs.Views.{counted_by}
 use Rattle.puzzle_cli.specs.declared.cut_blocks.Shown.{Shown}
-use Rattle.puzzle_cli.specs.declared.status.Status.{Status}
-use Rattle.puzzle_cli.specs.declared.status.Status.TheVariants as status
+use Rattle.run_status.specs.declared.status.Status.{Status}
+use Rattle.run_status.specs.declared.status.Status.TheVariants as status
 use Rattle.puzzle_cli.specs.Plays.{Stored}
 
 -- the reader and the graph are those of bytes that are read as a store, which are the store's where it tells its own; some records may have been looked at

@@ -1,7 +1,7 @@
 -- Which devices a job touches. The others are left as they were.
 use Rattle.std.specs.Prelude.{Bool, true, false, Option, Some, None}
-use Rattle.puzzle_cli.specs.declared.jobs.Job.{Job}
-use Rattle.puzzle_cli.specs.declared.jobs.Job.TheVariants.{Finest, Build, Gen, Info, Replay, Tour}
+use Rattle.command_words.specs.declared.jobs.Job.{Job}
+use Rattle.command_words.specs.declared.jobs.Job.TheVariants.{Finest, Build, Gen, Info, Replay, Tour}
 
 pub record Devices : Type 0 where
   pub input : Bool

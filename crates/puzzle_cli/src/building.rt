@@ -12,21 +12,20 @@ ghost use Rattle.tri_stream.specs.Streams.{told_list};
 ghost use Rattle.assign.specs.Splits.{split_set};
 ghost use Rattle.patch_file.specs.Writing.{claimed};
 ghost use Rattle.build_pass.specs.Building.{store_of, IsBuildable};
-ghost use Rattle.puzzle_cli.specs.declared.status.Status.{Status};
+ghost use Rattle.run_status.specs.declared.status.Status.{Status};
 ghost use Rattle.puzzle_cli.specs.Build.{build_note, built_of, built_text, input_store, params_of, read_text, stream_params, summary_of, IsLeft, IsLeftOver};
 ghost use Rattle.puzzle_cli.specs.Finest.{digits_of, finest_split, input_for, IsAccepted};
 ghost use Rattle.puzzle_cli.specs.Readings.{IsSmallStream};
 ghost use Rattle.puzzle_cli.specs.Runs.{BuildRun};
-ghost use Rattle.puzzle_cli.specs.Statuses.{status_of, IsRefused, IsUnbuilt};
+ghost use Rattle.run_status.specs.Statuses.{status_of, IsOfStreams, IsRefused, IsUnbuilt};
 
-use crate::Status;
 use crate::reading::{InputStream, read_stream};
-use crate::status::{status_of_build, status_of_claim, status_of_split};
 use assign::Leaves;
 use build_pass::{Built, build};
 use diamond_graph::Closing;
 use edge_collapse::Bench;
 use patch_file::{Params, StoreWriter};
+use run_status::{Status, status_of_build, status_of_claim, status_of_split};
 use split_pass::split;
 use std::alloc::{AllocError, Global};
 use tpz_io::{Blob, Failed, Out, Source};
@@ -93,7 +92,9 @@ fn store_stream<W: Blob, S: Blob>(
         IsLeft (S.held store.old) (S.held store.new) (store_of M (stream_params cap budget read)))) }
     ensures left { IsLeftOver (S.held store.old) (S.held store.new) }
     ensures before { result ≡ Err Status.TooManyRecords → S.held store.new ≡ S.held store.old }
-    ensures status { IfErr result (λ status. (status ≡ Status.Memory) ⊎ ((status ≡ Status.TooManyRecords) ⊎ (status ≡ Status.StoreFault))) }
+    ensures status { IfErr result (λ status. (status ≡ Status.StoreFault) ⊎ ((status ≡ Status.TooManyRecords) ⊎ IsOfStreams status)) }
+    ensures work_fault { result ≡ Err Status.WorkFault → Rose (W.faults work.old) (W.faults work.new) }
+    ensures work_damage { (offset : ℕ) → result ≡ Err (Status.WorkDamage offset) → W.held work.old ≡ None }
     ensures cause { result ≡ Err Status.StoreFault → Rose (S.faults store.old) (S.faults store.new) }
     ensures reads { S.reads store.new ≡ S.reads store.old }
     ensures telling { is_some (S.held store.new) ≡ is_some (S.held store.old) }
@@ -158,7 +159,8 @@ pub fn store_input<I: Source, W: Blob, S: Blob>(
     ensures input_fault { result ≡ Err Status.InputFault → Rose (I.faults input.old) (I.faults input.new) }
     ensures work_fault { result ≡ Err Status.WorkFault → Rose (W.faults work.old) (W.faults work.new) }
     ensures work_damage { (offset : ℕ) → result ≡ Err (Status.WorkDamage offset) → W.held work.old ≡ None }
-    ensures before { (status : Status) → result ≡ Err status → ¬ (status ≡ Status.StoreFault) → ¬ (status ≡ Status.Memory) → S.held store.new ≡ S.held store.old }
+    ensures before { (status : Status) → result ≡ Err status → ¬ (status ≡ Status.StoreFault) → ¬ (status ≡ Status.Memory) → ¬ (status ≡ Status.WorkFault)
+        → ((offset : ℕ) → ¬ (status ≡ Status.WorkDamage offset)) → S.held store.new ≡ S.held store.old }
     ensures after { OnErr result (ForSome (I.left input.old) (λ bytes. ForSome (W.held work.old) (λ _. (rows : List Row) (faces : List Face)
         → input_for plan.digits bytes ≡ Ok (record { rows = rows; faces = faces })
         → IsLeft (S.held store.old) (S.held store.new) (input_store plan.cap plan.budget (digits_of plan.digits bytes) rows faces)))) }

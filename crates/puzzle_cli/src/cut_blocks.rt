@@ -11,15 +11,15 @@ ghost use Rattle.patch_file.specs.Asking.{HasAsked};
 ghost use Rattle.patch_file.specs.Patches.{joined};
 ghost use Rattle.patch_file.specs.Reading.{patches_of, IsBlockOf, IsRightBase};
 ghost use Rattle.view_cut.specs.Sets.{centres_at, IsConformingSet};
-ghost use Rattle.puzzle_cli.specs.declared.status.Status.{Status};
-ghost use Rattle.puzzle_cli.specs.declared.status.ReadAt.{ReadAt};
+ghost use Rattle.run_status.specs.declared.status.Status.{Status};
+ghost use Rattle.run_status.specs.declared.status.ReadAt.{ReadAt};
 ghost use Rattle.puzzle_cli.specs.Plays.{first_wrong, wrong_at};
 ghost use Rattle.puzzle_cli.specs.Shown.{all_patches, bit_picked, is_unread, outer_patches_at, shown_patches, stored_in, AreCounted, IsNamed, IsOpen};
 
-use crate::{ReadAt, Status};
 use diamond_graph::Graph;
 use patch_file::{Block, BlockFault, StoreReader};
 use patch_view::PatchView;
+use run_status::{ReadAt, Status};
 use std::alloc::{AllocError, Global};
 use tetra_name::{Half, Tet, child, root};
 use tpz_io::Blob;

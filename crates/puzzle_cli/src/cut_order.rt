@@ -1,6 +1,7 @@
 // The triangles of a mesh that is split: leaf after leaf in the order of its finest cut, with their vertices numbered.
-ghost use Rattle.std.specs.Prelude.{◌≡◌, ◌≤◌, ◌<◌, ◌*◌, ◌++◌, ◌∷◌, [], List, flat_map, take, IfOk, IfErr, IfSome, OnOk};
+ghost use Rattle.std.specs.Prelude.{◌≡◌, ◌≤◌, ◌<◌, ◌*◌, ◌++◌, ◌∷◌, [], ℕ, List, Err, None, flat_map, is_some, take, IfOk, IfErr, IfSome, OnOk};
 ghost use Rattle.std.specs.Option.{ForSome};
+ghost use Rattle.tpz_io.specs.Causes.{Rose};
 ghost use Rattle.tpz_base.specs.Meshes.{Mesh};
 ghost use Rattle.tpz_base.specs.Tetrahedra.{children, parts, roots};
 ghost use Rattle.tpz_base.specs.Cuts.{cut_mesh};
@@ -9,14 +10,15 @@ ghost use Rattle.tetra_name.specs.Names.{point_of, tetrahedron_of, IsCentre, IsN
 ghost use Rattle.diamond_graph.specs.Graphs.{centres, IsGraph};
 ghost use Rattle.tri_stream.specs.Streams.{told_list, IsLive, Stands};
 ghost use Rattle.assign.specs.Leaf.{leaf_patch};
-ghost use Rattle.puzzle_cli.specs.declared.status.Status.{Status};
+ghost use Rattle.run_status.specs.declared.status.Status.{Status};
 ghost use Rattle.assign.specs.Standing.{HoldsPatches};
 ghost use Rattle.puzzle_cli.specs.Leaves.{Adds, AreLive, KeepsStreams};
+ghost use Rattle.run_status.specs.Statuses.{IsOfStreams};
 ghost use Rattle.cut_export.specs.Numbering.{numbered_mesh, IsNumbering};
 
-use crate::Status;
 use assign::Split;
 use cut_export::Numbered;
+use run_status::Status;
 use std::alloc::Global;
 use tetra_name::{Half, Tet, child, member_count, root};
 use tpz_io::Blob;
@@ -36,7 +38,10 @@ fn add_stream<W: Blob>(
     ensures numbering { OnOk result (IsNumbering numbered.new) }
     ensures kept { KeepsStreams streams.old streams.new (W.held work.old) (W.held work.new) }
     ensures later { W.faults work.old ≤ W.faults work.new }
-    ensures memory { IfErr result (λ status. status ≡ Status.Memory) }
+    ensures telling { is_some (W.held work.new) ≡ is_some (W.held work.old) }
+    ensures status { IfErr result IsOfStreams }
+    ensures work_fault { result ≡ Err Status.WorkFault → Rose (W.faults work.old) (W.faults work.new) }
+    ensures work_damage { (offset : ℕ) → result ≡ Err (Status.WorkDamage offset) → W.held work.old ≡ None }
 {
     let mut at = streams.start(id);
     'triangles: while let Some(t) = streams.read(work, &mut at)? {
@@ -61,7 +66,10 @@ fn add_leaf<W: Blob>(
     ensures numbering { OnOk result (IsNumbering numbered.new) }
     ensures kept { KeepsStreams streams.old streams.new (W.held work.old) (W.held work.new) }
     ensures later { W.faults work.old ≤ W.faults work.new }
-    ensures memory { IfErr result (λ status. status ≡ Status.Memory) }
+    ensures telling { is_some (W.held work.new) ≡ is_some (W.held work.old) }
+    ensures status { IfErr result IsOfStreams }
+    ensures work_fault { result ≡ Err Status.WorkFault → Rose (W.faults work.old) (W.faults work.new) }
+    ensures work_damage { (offset : ℕ) → result ≡ Err (Status.WorkDamage offset) → W.held work.old ≡ None }
 {
     if split.graph.has(name.centre) {
         return Ok(());
@@ -90,7 +98,10 @@ fn add_children<W: Blob>(
     ensures numbering { OnOk result (IsNumbering numbered.new) }
     ensures kept { KeepsStreams streams.old streams.new (W.held work.old) (W.held work.new) }
     ensures later { W.faults work.old ≤ W.faults work.new }
-    ensures memory { IfErr result (λ status. status ≡ Status.Memory) }
+    ensures telling { is_some (W.held work.new) ≡ is_some (W.held work.old) }
+    ensures status { IfErr result IsOfStreams }
+    ensures work_fault { result ≡ Err Status.WorkFault → Rose (W.faults work.old) (W.faults work.new) }
+    ensures work_damage { (offset : ℕ) → result ≡ Err (Status.WorkDamage offset) → W.held work.old ≡ None }
 {
     let l = split.graph.l();
     add_leaf(numbered, streams, work, split, child(name, 0, l))?;
@@ -115,7 +126,10 @@ fn add_diamond<W: Blob>(
     ensures numbering { OnOk result (IsNumbering numbered.new) }
     ensures kept { KeepsStreams streams.old streams.new (W.held work.old) (W.held work.new) }
     ensures later { W.faults work.old ≤ W.faults work.new }
-    ensures memory { IfErr result (λ status. status ≡ Status.Memory) }
+    ensures telling { is_some (W.held work.new) ≡ is_some (W.held work.old) }
+    ensures status { IfErr result IsOfStreams }
+    ensures work_fault { result ≡ Err Status.WorkFault → Rose (W.faults work.old) (W.faults work.new) }
+    ensures work_damage { (offset : ℕ) → result ≡ Err (Status.WorkDamage offset) → W.held work.old ≡ None }
 {
     let count = member_count(centre, split.graph.l());
     'members: for slot in 0..count {
@@ -139,7 +153,10 @@ fn add_roots<W: Blob>(
     ensures numbering { OnOk result (IsNumbering numbered.new) }
     ensures kept { KeepsStreams streams.old streams.new (W.held work.old) (W.held work.new) }
     ensures later { W.faults work.old ≤ W.faults work.new }
-    ensures memory { IfErr result (λ status. status ≡ Status.Memory) }
+    ensures telling { is_some (W.held work.new) ≡ is_some (W.held work.old) }
+    ensures status { IfErr result IsOfStreams }
+    ensures work_fault { result ≡ Err Status.WorkFault → Rose (W.faults work.old) (W.faults work.new) }
+    ensures work_damage { (offset : ℕ) → result ≡ Err (Status.WorkDamage offset) → W.held work.old ≡ None }
 {
     let l = split.graph.l();
     'roots: for slot in 0..6u8 {
@@ -163,7 +180,10 @@ fn add_diamonds<W: Blob>(
     ensures numbering { OnOk result (IsNumbering numbered.new) }
     ensures kept { KeepsStreams streams.old streams.new (W.held work.old) (W.held work.new) }
     ensures later { W.faults work.old ≤ W.faults work.new }
-    ensures memory { IfErr result (λ status. status ≡ Status.Memory) }
+    ensures telling { is_some (W.held work.new) ≡ is_some (W.held work.old) }
+    ensures status { IfErr result IsOfStreams }
+    ensures work_fault { result ≡ Err Status.WorkFault → Rose (W.faults work.old) (W.faults work.new) }
+    ensures work_damage { (offset : ℕ) → result ≡ Err (Status.WorkDamage offset) → W.held work.old ≡ None }
 {
     let count = split.graph.len();
     'diamonds: for i in 0..count {
@@ -188,7 +208,9 @@ pub fn number_leaves<W: Blob>(
         → numbered_mesh numbered ≡ cut_mesh split.now.graph.l (leaf_patch split.now.graph.l (centres split.now.graph) M) (centres split.now.graph)) }
     ensures numbering { IfOk result IsNumbering }
     ensures later { W.faults work.old ≤ W.faults work.new }
-    ensures memory { IfErr result (λ status. status ≡ Status.Memory) }
+    ensures status { IfErr result IsOfStreams }
+    ensures work_fault { result ≡ Err Status.WorkFault → Rose (W.faults work.old) (W.faults work.new) }
+    ensures work_damage { (offset : ℕ) → result ≡ Err (Status.WorkDamage offset) → W.held work.old ≡ None }
 {
     let mut numbered = Numbered::with_room(alloc, count)?;
     add_roots(&mut numbered, streams, work, split)?;

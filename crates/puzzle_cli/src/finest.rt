@@ -10,13 +10,13 @@ ghost use Rattle.diamond_graph.specs.Adding.{most_centres};
 ghost use Rattle.puzzle_cli.specs.Finest.{digits_of, finest_items, finest_note, finest_split, input_for, items_of, IsAccepted};
 ghost use Rattle.cut_export.specs.Numbering.{numbered_mesh, IsNumbering};
 ghost use Rattle.puzzle_cli.specs.Readings.{IsInputLow};
-ghost use Rattle.puzzle_cli.specs.Statuses.{status_of, IsOfStore, IsRefused};
+ghost use Rattle.run_status.specs.Statuses.{status_of, IsOfStore, IsRefused};
 
-use crate::Status;
 use crate::export::write_part_and_note;
 use crate::reading::{Facts, read_mesh};
 use crate::splitting::number;
 use cut_export::{ExportFault, Numbered};
+use run_status::Status;
 use std::alloc::{AllocError, Global};
 use tpz_io::{Blob, Out, Source};
 

@@ -8,10 +8,10 @@ ghost use Rattle.mesh_gen.specs.Generator.{generated, IsSize};
 ghost use Rattle.puzzle_cli.specs.Gen.{gen_items, gen_note};
 ghost use Rattle.cut_export.specs.Numbering.{numbered_mesh, IsNumbering};
 
-use crate::Status;
 use crate::export::write_part_and_note;
 use cut_export::{ExportFault, Numbered};
 use mesh_gen::{gen_count, gen_tri};
+use run_status::Status;
 use std::alloc::{AllocError, Global};
 use tpz_io::Out;
 

@@ -8,13 +8,12 @@ ghost use Rattle.patch_file.specs.declared.shape.StoreBad.{StoreBad};
 ghost use Rattle.patch_file.specs.Asking.{RoseBy};
 ghost use Rattle.patch_file.specs.Stores.{read};
 ghost use Rattle.patch_file.specs.Tables.{Table};
-ghost use Rattle.puzzle_cli.specs.declared.status.ReadAt.{ReadAt};
-ghost use Rattle.puzzle_cli.specs.declared.status.Status.{Status};
+ghost use Rattle.run_status.specs.declared.status.ReadAt.{ReadAt};
+ghost use Rattle.run_status.specs.declared.status.Status.{Status};
 ghost use Rattle.puzzle_cli.specs.Info.{info_items, info_note, input_text, store_text};
 
-use crate::Status;
-use crate::status::status_of_open;
 use patch_file::{Params, StoreReader};
+use run_status::{Status, status_of_open};
 use std::alloc::{AllocError, Global};
 use tpz_io::{Blob, Failed, Out};
 

@@ -4,7 +4,7 @@
 ghost use Rattle.std.specs.Prelude.{◌≡◌, ◌≤◌, ◌⊎◌, ℕ, Option, false, None, map, string_bytes};
 ghost use Rattle.tpz_io.specs.Causes.{Rose};
 ghost use Rattle.patch_file.specs.Asking.{RoseBy};
-ghost use Rattle.puzzle_cli.specs.Words.{asked};
+ghost use Rattle.command_words.specs.Words.{asked};
 ghost use Rattle.puzzle_cli.specs.Touches.{touched_by};
 ghost use Rattle.puzzle_cli.specs.Finest.{AsksFinest};
 ghost use Rattle.puzzle_cli.specs.Build.{AsksBuild};
@@ -20,27 +20,23 @@ mod export;
 mod finest;
 mod generate;
 mod info;
-mod jobs;
-mod law;
 mod numbering;
-mod options;
 mod reading;
 mod replaying;
 mod splitting;
-mod status;
 mod touring;
 
 use building::Plan;
-pub use jobs::{Job, WordsFault, read_words};
-pub use law::text_law;
-pub use status::{InputKind, Place, ReadAt, Status};
+pub use command_words::{Job, WordsFault, read_words};
+pub use run_status::{InputKind, Place, ReadAt, Status};
 use std::alloc::Global;
+pub use text_law::text_law;
 use tpz_io::{Blob, Out, Source};
 
 /// Runs the command that the words ask for. It always returns.
 ///
 /// `finest` reads a PLY mesh from `input`, and writes its triangles leaf by leaf as one part of `out`, in the input's
-/// scaled coordinates, and then its note. It keeps the points in `work`, whose bytes it overwrites. `build` reads a mesh as `finest` does, and writes the store of it into `store`, which must be
+/// scaled coordinates, and then its note. It keeps the points in `work`, whose bytes it overwrites, and with a cap the triangles behind them. `build` reads a mesh as `finest` does, and writes the store of it into `store`, which must be
 /// empty, and then its note. `gen` writes a mesh of
 /// a formula as one part of `out`, and then its note. `info` reads the head of `store`, and writes what it says as a note. `replay` takes the
 /// lines of `script` over the store in `store`, writes a part of `out` for each that says so, and then its note. `tour` does what `build` does, and then what `replay` does. A device that the command doesn't touch is left as it was. No call

@@ -11,16 +11,15 @@ ghost use Rattle.ply_body.specs.Readings.{coming_told};
 ghost use Rattle.tpz_base.specs.Meshes.{Mesh};
 ghost use Rattle.tri_stream.specs.Lists.{IsHeld};
 ghost use Rattle.tri_stream.specs.Streams.{total, IsLive, Stands};
-ghost use Rattle.puzzle_cli.specs.declared.status.Status.{Status};
+ghost use Rattle.run_status.specs.declared.status.Status.{Status};
 ghost use Rattle.puzzle_cli.specs.Finest.{digits_of, input_for, IsAccepted, IsMeshOf};
 ghost use Rattle.puzzle_cli.specs.Leaves.{Fills};
 ghost use Rattle.puzzle_cli.specs.Readings.{HasOpened, IsRefusalTold, IsSmallMesh, IsSmallStream, IsStreamOf, TrisTold};
-ghost use Rattle.puzzle_cli.specs.Statuses.{status_of, IsRefused, IsUnread};
+ghost use Rattle.run_status.specs.Statuses.{status_of, IsRefused, IsUnread};
 
-use crate::Status;
-use crate::status::{status_of_body, status_of_head};
 use ply_body::{Faces, Frame};
 use ply_head::read_head;
+use run_status::{Status, status_of_body, status_of_head};
 use std::alloc::Global;
 use tpz_base::Tri;
 use tpz_io::{Blob, Source};
@@ -257,7 +256,7 @@ fn stream_tris<I: Source, W: Blob>(
 }
 
 /// Reads an input with these digits, or with those that the types of its coordinates set, into a stream. Its points go to
-/// the work file, whose bytes are overwritten.
+/// the work file, whose bytes are overwritten, and its triangles behind them.
 pub fn read_stream<I: Source, W: Blob>(
     alloc: Global,
     digits: Option<u8>,

@@ -1,25 +1,27 @@
 // The mesh of an input in the order of its finest cut.
 ghost use Rattle.std.specs.Prelude.{◌≡◌, ◌≢◌, ◌≤◌, ◌<◌, ◌+◌, ◌^◌, ◌++◌, ◌⊎◌, ℕ, List, All, Err, None, Some, length, is_some, IfOk, IfErr, OnOk};
 ghost use Rattle.std.specs.Option.{ForSome, option_map};
+ghost use Rattle.tpz_io.specs.Causes.{Rose};
 ghost use Rattle.tpz_base.specs.Texts.{Bytes};
 ghost use Rattle.diamond_graph.specs.Adding.{most_centres};
 ghost use Rattle.tri_stream.specs.Lists.{IsHeld};
 ghost use Rattle.tri_stream.specs.declared.names.StreamId.{StreamId};
+ghost use Rattle.tri_stream.specs.declared.fault.StreamFault.{StreamFault};
 ghost use Rattle.tri_stream.specs.Streams.{count_of, told_list, total, IsLive, Stands};
-ghost use Rattle.puzzle_cli.specs.declared.status.Status.{Status};
+ghost use Rattle.run_status.specs.declared.status.Status.{Status};
 ghost use Rattle.puzzle_cli.specs.Finest.{mesh_for, split_for};
 ghost use Rattle.cut_export.specs.Numbering.{numbered_mesh, IsNumbering};
 ghost use Rattle.puzzle_cli.specs.Readings.{IsSmallMesh};
 ghost use Rattle.puzzle_cli.specs.Leaves.{Fills, IsSourceOf};
+ghost use Rattle.run_status.specs.Statuses.{IsOfStreams};
 
-use crate::Status;
 use crate::cut_order::number_leaves;
 use crate::numbering::number_by_roots;
 use crate::reading::InputMesh;
-use crate::status::status_of_split;
 use assign::Leaves;
 use cut_export::Numbered;
 use diamond_graph::Closing;
+use run_status::{Status, status_of_split};
 use split_pass::split;
 use std::alloc::Global;
 use tpz_base::Tri;
@@ -46,6 +48,8 @@ fn fill<W: Blob>(
     requires few { total streams.old + length tris.now ≤ 2 ^ 40 }
     ensures filled { OnOk result (Fills id tris.now streams.old streams.new (W.held work.old) (W.held work.new)) }
     ensures later { W.faults work.old ≤ W.faults work.new }
+    ensures work_fault { result ≡ Err StreamFault.WorkFault → Rose (W.faults work.old) (W.faults work.new) }
+    ensures work_damage { (offset : ℕ) → result ≡ Err (StreamFault.WorkDamage offset) → W.held work.old ≡ None }
 {
     'tris: for t in tris {
         streams.append(work, id, *t)?;
@@ -66,7 +70,9 @@ fn stream_of<W: Blob>(
     requires plain { All (IsHeld l) tris.items }
     requires few { length tris.items ≤ 2147483648 }
     ensures holds { IfOk result (λ source. IsSourceOf l tris.items source.streams source.whole (W.held work.old) (W.held work.new)) }
-    ensures memory { IfErr result (λ status. status ≡ Status.Memory) }
+    ensures status { IfErr result IsOfStreams }
+    ensures work_fault { result ≡ Err Status.WorkFault → Rose (W.faults work.old) (W.faults work.new) }
+    ensures work_damage { (offset : ℕ) → result ≡ Err (Status.WorkDamage offset) → W.held work.old ≡ None }
     ensures later { W.faults work.old ≤ W.faults work.new }
 {
     let mut streams = Streams::new(alloc, end, l);
@@ -87,7 +93,9 @@ fn number_by_cap<W: Blob>(
     ensures numbering { IfOk result IsNumbering }
     ensures few { OnOk result (ForSome (W.held work.old) (λ _. length (split_for (Some cap) mesh.l mesh.tris.items) ≤ most_centres)) }
     ensures too_many { result ≡ Err Status.TooManyRecords → ForSome (W.held work.old) (λ _. most_centres < length (split_for (Some cap) mesh.l mesh.tris.items)) }
-    ensures status { IfErr result (λ status. (status ≡ Status.Memory) ⊎ (status ≡ Status.TooManyRecords)) }
+    ensures status { IfErr result (λ status. (status ≡ Status.TooManyRecords) ⊎ IsOfStreams status) }
+    ensures work_fault { result ≡ Err Status.WorkFault → Rose (W.faults work.old) (W.faults work.new) }
+    ensures work_damage { (offset : ℕ) → result ≡ Err (Status.WorkDamage offset) → W.held work.old ≡ None }
     ensures later { W.faults work.old ≤ W.faults work.new }
 {
     let count = mesh.tris.as_slice().len();
@@ -120,7 +128,9 @@ pub fn number<W: Blob>(
     ensures numbering { IfOk result IsNumbering }
     ensures few { OnOk result (ForSome (W.held work.old) (λ _. length (split_for cap mesh.l mesh.tris.items) ≤ most_centres)) }
     ensures too_many { result ≡ Err Status.TooManyRecords → ForSome (W.held work.old) (λ _. most_centres < length (split_for cap mesh.l mesh.tris.items)) }
-    ensures status { IfErr result (λ status. (status ≡ Status.Memory) ⊎ (status ≡ Status.TooManyRecords)) }
+    ensures status { IfErr result (λ status. (status ≡ Status.TooManyRecords) ⊎ IsOfStreams status) }
+    ensures work_fault { result ≡ Err Status.WorkFault → Rose (W.faults work.old) (W.faults work.new) }
+    ensures work_damage { (offset : ℕ) → result ≡ Err (Status.WorkDamage offset) → W.held work.old ≡ None }
     ensures later { W.faults work.old ≤ W.faults work.new }
 {
     match cap {

@@ -1,12 +1,12 @@
 // The command `tour`.
 ghost use Rattle.std.specs.Prelude.{◌≡◌, ◌≤◌, None, ℕ, IfSome};
 ghost use Rattle.tpz_io.specs.Causes.{Rose};
-ghost use Rattle.puzzle_cli.specs.declared.status.Status.{Status};
+ghost use Rattle.run_status.specs.declared.status.Status.{Status};
 ghost use Rattle.puzzle_cli.specs.Runs.{TourRun};
 
-use crate::Status;
 use crate::building::{Plan, build_input};
 use crate::replaying::replay;
+use run_status::Status;
 use std::alloc::Global;
 use tpz_io::{Blob, Out, Source};
 

@@ -18,7 +18,6 @@ use Rattle.tetra_name.specs.Names.{child_of, point_of, root_at, tetrahedron_of}
 use Rattle.diamond_graph.specs.Adding.{most_centres}
 use Rattle.tri_stream.specs.declared.names.StreamId.{StreamId}
 use Rattle.tri_stream.specs.Streams.{StreamsState, count_of, list_of, told_list, IsLive, Stands}
-use Rattle.split_pass.specs.Moves.{Divides, Ends}
 use Rattle.tri_stream.proofs.Changes.{live_differs, same_name, same_size}
 use Rattle.diamond_graph.specs.Closed.{closure, IsPartOf}
 use Rattle.diamond_graph.proofs.ClosureLaw.{closure_ascends, closure_closed, closure_holds, closure_least}
@@ -145,40 +144,6 @@ told_length s None id M n is stands all = absurd cc
 told_length s (Some bytes) id M n is stands all =
     let same : list_of s bytes id ≡ M = cc in
     sym (ap length same) ∙ all bytes (stands bytes refl)
-
--- a stream that was divided has ended when both parts have
-pub both_end : (id a b : StreamId) (s0 s1 s2 s3 : StreamsState) (h0 h1 h2 h3 : Option (List ℕ)) → Divides id a b s0 s1 h0 h1 → Ends a s1 s2 h1 h2 → Ends b s2 s3 h2 h3
-    → IsLive s0 id → Ends id s0 s3 h0 h3
-both_end id a b s0 s1 s2 s3 h0 h1 h2 h3 d e f live =
-    let id_a = live_differs s0 id a live d.fresh_first in
-    let id_b = live_differs s0 id b live d.fresh_second in
-    let b_a : b ≢ a = λ same. d.apart (sym same) in
-    let size_b = same_size s1 s2 b (e.counts b b_a) in
-    let total_1 = d.total in
-    let total_2 = e.total in
-    let total_3 = f.total in
-    let sizes = d.sizes in
-    record {
-      ended = f.counts id id_b ∙ e.counts id id_a ∙ d.ended;
-      counts = λ x x_id. elim (same_name x a) [
-        | inl is ↦ let in_3 : count_of s3 x ≡ count_of s3 a = ap (count_of s3) is in
-            let in_0 : count_of s0 x ≡ count_of s0 a = ap (count_of s0) is in
-            in_3 ∙ f.counts a d.apart ∙ e.ended ∙ sym (in_0 ∙ d.fresh_first)
-        | inr x_a ↦ elim (same_name x b) [
-          | inl is ↦ let in_3 : count_of s3 x ≡ count_of s3 b = ap (count_of s3) is in
-              let in_0 : count_of s0 x ≡ count_of s0 b = ap (count_of s0) is in
-              in_3 ∙ f.ended ∙ sym (in_0 ∙ d.fresh_second)
-          | inr x_b ↦ f.counts x x_b ∙ e.counts x x_a ∙ d.counts x x_id x_a x_b
-        ]
-      ];
-      lists = λ x x_id x_live.
-          (let x_a = live_differs s0 x a x_live d.fresh_first in
-          let x_b = live_differs s0 x b x_live d.fresh_second in
-          let in_1 : IsLive s1 x = rw (d.counts x x_id x_a x_b) x_live in
-          let in_2 : IsLive s2 x = rw (e.counts x x_a) in_1 in
-          f.lists x x_b in_2 ∙ e.lists x x_a in_1 ∙ d.lists x x_id x_live);
-      total = omega arith;
-    }
 
 pub left_child : (L : ℕ) (name first : Tet) (T : Tetrahedron) → tetrahedron_of L first ≡ child_of 0 (tetrahedron_of L name) → tetrahedron_of L name ≡ Some T
     → tetrahedron_of L first ≡ Some (child_0 T)

@@ -3,5 +3,9 @@ pub mod Moving
 mod Crowding
 mod Rooting
 mod CrowdLaw
-mod Naming
-pub mod Placing
+mod Sealing
+mod Halving
+mod Searching
+mod Settling
+mod RootNames
+mod Leaving

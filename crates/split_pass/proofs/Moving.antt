@@ -1,37 +1,10 @@
 -- Streams that are made, filled and ended, one step after another.
-use Rattle.std.proofs.Common.{◌≡◌, ◌≢◌, ℕ, ◌++◌, [], List, Option, Some, None, Ok, Err, Result, refl, sym, ◌∙◌, ap, subst, inl, inr, ◌⊎◌, arith}
-use Rattle.std.specs.Prelude.{IsSome, OnErr, OnOk}
-use Rattle.std.specs.Option.{ForSome, option_map, unwrap_or}
-use Rattle.std.proofs.lemmas.Bool.{cases_lt}
+use Rattle.std.proofs.Common.{◌≡◌, ◌≢◌, ℕ, ◌++◌, [], List, Option, Some, None, refl, sym, ◌∙◌, ap, inl, inr}
+use Rattle.std.specs.Option.{ForSome, option_map}
 use Rattle.tpz_base.specs.Meshes.{Mesh}
 use Rattle.tri_stream.specs.declared.names.StreamId.{StreamId}
-use Rattle.tri_stream.specs.Streams.{StreamsState, count_of, list_of, told_list, total, IsLive, LeavesAll, LeavesOthers, Stands, size_of}
+use Rattle.tri_stream.specs.Streams.{StreamsState, count_of, list_of, told_list, IsLive, LeavesOthers, Stands}
 use Rattle.tri_stream.proofs.Changes.{differ, live_differs, nothing_told, one_told, same_name, Makes}
-use Rattle.split_pass.specs.Moves.{MakesTwo}
-
-pub made_two : (a b : StreamId) (s0 s1 s2 : StreamsState) → Makes a s0 s1 → Makes b s1 s2 → MakesTwo a b s0 s2
-made_two a b s0 s1 s2 m n =
-    let apart : a ≢ b = differ s1 a b 0 m.count n.fresh in
-    let others_0 = m.others None (nothing_told s0) in
-    let others_1 = n.others None (nothing_told s1) in
-    record {
-      fresh_first = m.fresh;
-      fresh_second = sym (others_0.counts b (λ same. apart (sym same))) ∙ n.fresh;
-      apart = apart;
-      count_first = others_1.counts a apart ∙ m.count;
-      count_second = n.count;
-      counts = λ x x_a x_b. others_1.counts x x_b ∙ others_0.counts x x_a;
-      total = n.total ∙ m.total;
-      stands = λ bytes h. n.stands bytes (m.stands bytes h);
-      list_first = λ bytes h.
-          (let told = (n.others (Some bytes) (one_told s1 bytes (m.stands bytes h))).lists a apart in
-          let same : list_of s2 bytes a ≡ list_of s1 bytes a = cc in same ∙ m.list bytes h);
-      list_second = λ bytes h. n.list bytes (m.stands bytes h);
-      lists = λ told h x x_a x_b.
-          (n.others told (λ bytes is. m.stands bytes (h bytes is))).lists x x_b ∙ (m.others told h).lists x x_a;
-      base = n.base ∙ m.base;
-      l = n.l ∙ m.l;
-    }
 
 -- the list of a stream that was made empty and filled
 pub filled : (s1 : StreamsState) (x : StreamId) (h : Option (List ℕ)) (M more : Mesh) (o : Option Mesh) → ((bytes : List ℕ) → h ≡ Some bytes → list_of s1 bytes x ≡ [])

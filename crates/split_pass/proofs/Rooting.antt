@@ -1,15 +1,13 @@
 -- A triangle is in the root that its slot tells, and the streams of the six roots.
 use Rattle.std.proofs.Common.{◌≡◌, ◌≢◌, ◌<◌, ℕ, zero, suc, ◌+◌, ◌++◌, ◌∷◌, [], List, Option, Some, None, Result, Ok, Err, ◌⊎◌, inl, inr, true, false, refl, sym, ◌∙◌, ap, subst, arith, length}
-use Rattle.std.specs.Prelude.{filter, slice_get, sum_by, OnOk}
-use Rattle.std.specs.Option.{option_map, unwrap_or}
+use Rattle.std.specs.Prelude.{filter, slice_get, OnOk}
+use Rattle.std.specs.Option.{option_map}
 use Rattle.std.proofs.lemmas.Bool.{cases_eq, eq-eqb, eqb-true, false_from_ne_true}
-use Rattle.std.proofs.lemmas.List.Sums.{sum_by-cons}
 use Rattle.std.proofs.lemmas.Option.{slice_get_within}
 use Rattle.tpz_base.specs.declared.shape.Tri.{Tri}
-use Rattle.tpz_base.specs.Meshes.{Mesh}
 use Rattle.tpz_base.specs.Roots.{corner_sum, is_in_root, root_slot}
 use Rattle.tri_stream.specs.declared.names.StreamId.{StreamId}
-use Rattle.tri_stream.specs.Streams.{StreamsState, count_of, list_of, told_list, total, IsLive, LeavesOthers, Stands}
+use Rattle.tri_stream.specs.Streams.{StreamsState, count_of, list_of, told_list, IsLive, LeavesOthers, Stands}
 use Rattle.split_pass.specs.Moves.{AreApart, AreFresh, AreLive, IsNoneOf, LeavesAllOthers, MakesAll}
 use Rattle.split_pass.proofs.Dividing.{nothing_more}
 use Rattle.tri_stream.proofs.Changes.{differ, live_as_before, live_differs, nothing_told, one_told, same_name, Makes}

@@ -1,11 +1,21 @@
 -- The crowded diamonds below a tetrahedron, as triangles are divided among its children.
-use Rattle.std.specs.Prelude.{ℕ, zero, suc, ◌*◌, not, List, [], ◌∷◌, length, filter, nat_lt, if◌then◌else◌}
+use Rattle.std.specs.Prelude.{ℕ, zero, suc, ◌*◌, Bool, not, List, [], ◌∷◌, length, filter, nat_lt, if◌then◌else◌}
 use Rattle.std.specs.List.{slice_index_or}
 use Rattle.tpz_base.specs.declared.shape.Point.{Point}
+use Rattle.tpz_base.specs.declared.shape.Tri.{Tri}
+use Rattle.tpz_base.specs.Lists.{has}
 use Rattle.tpz_base.specs.Meshes.{Mesh}
 use Rattle.tpz_base.specs.Roots.{root_part}
-use Rattle.tpz_base.specs.Tetrahedra.{Tetrahedron, child_0, child_1, diamond, roots}
-use Rattle.assign.specs.Paths.{is_beyond}
+use Rattle.tpz_base.specs.Tetrahedra.{Tetrahedron, child_0, child_1, diamond, roots, tetrahedron_eq}
+use Rattle.assign.specs.Paths.{is_beyond, path}
+
+-- whether the path of t goes through T
+unfoldable pub goes_through : ℕ → Tri → Tetrahedron → Bool
+goes_through L t T = has tetrahedron_eq (path L t) T
+
+-- the triangles that go through T, in order
+abbrev pub through : ℕ → Mesh → Tetrahedron → Mesh
+through L M T = filter (λ t. goes_through L t T) M
 
 -- the triangles that go to child 0, and those that go to child 1
 abbrev pub first_part : Tetrahedron → Mesh → Mesh

@@ -1,3 +1,4 @@
 pub mod Faults
 pub mod Crowds
 pub mod Moves
+pub mod Spread

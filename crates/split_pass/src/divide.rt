@@ -1,19 +1,26 @@
 // The triangles of a tetrahedron are divided among its two children.
-ghost use Rattle.std.specs.Prelude.{◌≡◌, ◌≢◌, ◌≤◌, ◌<◌, ◌+◌, ◌*◌, ◌^◌, ◌++◌, ◌∷◌, [], ℕ, List, Some, None, IfOk, IfErr, OnOk, IsTrue, is_some};
+ghost use Rattle.std.specs.Prelude.{◌≡◌, ◌≢◌, ◌≤◌, ◌<◌, ◌+◌, ◌*◌, ◌^◌, ◌++◌, ◌∷◌, [], ℕ, List, Some, None, Err, IfErr, OnOk, IsTrue, is_some};
 ghost use Rattle.std.specs.Option.{ForSome, option_map};
+ghost use Rattle.std.specs.FinMap as map;
+ghost use Rattle.tpz_io.specs.Causes.{Rose};
+ghost use Rattle.tpz_base.specs.declared.shape.Point.{Point};
+ghost use Rattle.tpz_base.specs.Cuts.{has_diamond};
+ghost use Rattle.tetra_name.specs.declared.shape.Tet.{Tet};
+ghost use Rattle.tri_stream.specs.declared.names.StreamId.{StreamId};
 ghost use Rattle.tpz_base.specs.Meshes.{is_whole, Mesh};
 ghost use Rattle.tpz_base.specs.Diamonds.{level_of};
 ghost use Rattle.tetra_name.specs.Names.{point_of, tetrahedron_of, IsBound, IsName};
 ghost use Rattle.tri_stream.specs.declared.names.Cursor.{Cursor};
+ghost use Rattle.tri_stream.specs.declared.fault.StreamFault.{StreamFault};
 ghost use Rattle.tpz_base.specs.Cubes.{IsTriInCube};
-ghost use Rattle.tri_stream.specs.Streams.{count_of, told_list, total, IsLive, Stands, Follows, size_of, Stays};
+ghost use Rattle.tri_stream.specs.Streams.{told_list, total, IsLive, Stands, Follows, size_of, Stays};
 ghost use Rattle.split_pass.specs.declared.fault.SplitFault.{SplitFault};
 ghost use Rattle.split_pass.specs.Crowds.{first_part, second_part};
-ghost use Rattle.split_pass.specs.Moves.{Divides, LeavesAllBut, MakesTwo};
+ghost use Rattle.split_pass.specs.Moves.{LeavesAllBut};
+ghost use Rattle.split_pass.specs.Spread.{AllBelow, HoldsThrough, IsChildName, IsKeyed};
 
 use crate::fault::SplitFault;
-use assign::Plane;
-use std::alloc::AllocError;
+use assign::{Leaves, Plane, stream_of};
 use tetra_name::Tet;
 use tpz_base::Tri;
 use tpz_io::Blob;
@@ -51,6 +58,8 @@ fn send<B: Blob>(
     ensures total { OnOk result (total streams.new ≡ total streams.old + 1) }
     ensures stays { Stays streams.old streams.new (B.held work.new) }
     ensures later { B.faults work.old ≤ B.faults work.new }
+    ensures work_fault { result ≡ Err StreamFault.WorkFault → Rose (B.faults work.old) (B.faults work.new) }
+    ensures work_damage { (offset : ℕ) → result ≡ Err (StreamFault.WorkDamage offset) → B.held work.old ≡ None }
     ensures telling { is_some (B.held work.new) ≡ is_some (B.held work.old) }
 {
     let id = if plane.side(&t) == 0 {
@@ -91,6 +100,8 @@ fn send_all<B: Blob>(
     ensures total { OnOk result (total streams.new ≡ total streams.old + size_of streams.old id) }
     ensures stays { Stays streams.old streams.new (B.held work.new) }
     ensures later { B.faults work.old ≤ B.faults work.new }
+    ensures work_fault { result ≡ Err StreamFault.WorkFault → Rose (B.faults work.old) (B.faults work.new) }
+    ensures work_damage { (offset : ℕ) → result ≡ Err (StreamFault.WorkDamage offset) → B.held work.old ≡ None }
     ensures telling { is_some (B.held work.new) ≡ is_some (B.held work.old) }
 {
     let plane = Plane::of(name, l);
@@ -101,43 +112,49 @@ fn send_all<B: Blob>(
     Ok(())
 }
 
-/// Two streams without triangles.
-fn make_halves(streams: &mut Streams) -> Result<Halves, AllocError>
-    ensures made { IfOk result (λ halves. MakesTwo halves.first halves.second streams.old streams.new) }
-    ensures base { streams.new.base ≡ streams.old.base }
-    ensures l { streams.new.l ≡ streams.old.l }
-    ensures stands { (bytes : List ℕ) → Stands streams.old bytes → Stands streams.new bytes }
-{
-    let first = streams.make()?;
-    let second = streams.make()?;
-    Ok(Halves { first, second })
-}
-
-/// Makes the streams of the two children of a tetrahedron out of its own, which ends.
-pub(crate) fn divide<B: Blob>(
+/// Divides the stream of a named tetrahedron among its two children: they are named in its place.
+pub(crate) fn halve<B: Blob>(
     streams: &mut Streams,
     work: &mut B,
+    leaves: &mut Leaves,
     name: Tet,
+    first: Tet,
+    second: Tet,
     l: u8,
     id: StreamId,
-) -> Result<Halves, SplitFault>
+) -> Result<(), SplitFault>
     requires bound { IsBound l }
     requires name { IsName l name }
     requires level { level_of l (point_of name.centre) < 3 * l }
-    requires live { IsLive streams.old id }
+    requires first { IsChildName l 0 name first }
+    requires second { IsChildName l 1 name second }
+    requires named { map.get leaves.old name ≡ Some id }
+    requires keyed { IsKeyed leaves.old streams.old }
     requires stands { ForSome (B.held work.old) (Stands streams.old) }
-    requires few { total streams.old ≤ 2 ^ 34 }
-    requires size { size_of streams.old id ≤ 2 ^ 34 }
-    ensures first { IfOk result (λ halves. ForSome (tetrahedron_of l name) (λ T. ForSome (told_list streams.old (B.held work.old) id) (λ M. told_list streams.new (B.held work.new) halves.first ≡ Some (first_part T M)))) }
-    ensures second { IfOk result (λ halves. ForSome (tetrahedron_of l name) (λ T. ForSome (told_list streams.old (B.held work.old) id) (λ M. told_list streams.new (B.held work.new) halves.second ≡ Some (second_part T M)))) }
-    ensures divides { IfOk result (λ halves. Divides id halves.first halves.second streams.old streams.new (B.held work.old) (B.held work.new)) }
+    requires few { total streams.old ≤ 2 ^ 33 }
+    requires size { size_of streams.old id ≤ 2 ^ 33 }
+    ensures keyed { OnOk result (IsKeyed leaves.new streams.new) }
+    ensures below { OnOk result ((F : List Point) → IsTrue (has_diamond F (point_of name.centre)) → AllBelow l F leaves.old → AllBelow l F leaves.new) }
+    ensures holds { OnOk result ((M : Mesh) → HoldsThrough l M leaves.old streams.old (B.held work.old) → HoldsThrough l M leaves.new streams.new (B.held work.new)) }
+    ensures first { OnOk result ((x : StreamId) × (map.get leaves.new first ≡ Some x)) }
+    ensures second { OnOk result ((x : StreamId) × (map.get leaves.new second ≡ Some x)) }
+    ensures gone { OnOk result (map.get leaves.new name ≡ None) }
+    ensures rest { OnOk result ((other : Tet) → other ≢ name → other ≢ first → other ≢ second → map.get leaves.new other ≡ map.get leaves.old other) }
+    ensures sizes { OnOk result ((other : Tet) (x : StreamId) → other ≢ first → other ≢ second → map.get leaves.new other ≡ Some x → size_of streams.new x ≡ size_of streams.old x) }
+    ensures total { OnOk result (total streams.new ≡ total streams.old) }
     ensures stays { Stays streams.old streams.new (B.held work.new) }
     ensures later { B.faults work.old ≤ B.faults work.new }
+    ensures work_fault { result ≡ Err SplitFault.WorkFault → Rose (B.faults work.old) (B.faults work.new) }
+    ensures work_damage { (offset : ℕ) → result ≡ Err (SplitFault.WorkDamage offset) → B.held work.old ≡ None }
     ensures telling { is_some (B.held work.new) ≡ is_some (B.held work.old) }
-    ensures memory { IfErr result (λ fault. fault ≡ SplitFault.Memory) }
+    ensures few_records { IfErr result (λ fault. fault ≢ SplitFault.TooManyRecords) }
 {
-    let halves = make_halves(streams)?;
+    let halves = Halves {
+        first: stream_of(streams, leaves, first)?,
+        second: stream_of(streams, leaves, second)?,
+    };
     send_all(streams, work, name, l, id, halves)?;
+    leaves.take(name);
     streams.give_back(work, id)?;
-    Ok(halves)
+    Ok(())
 }

@@ -3,7 +3,7 @@ ghost use Rattle.std.specs.Prelude.{◌≡◌};
 ghost use Rattle.diamond_graph.specs.declared.ancestors.ClosingFault.{ClosingFault};
 ghost use Rattle.split_pass.specs.declared.fault.SplitFault.{SplitFault};
 ghost use Rattle.split_pass.specs.declared.fault.SplitFault.TheVariants.{Memory};
-ghost use Rattle.split_pass.specs.Faults.{fault_of};
+ghost use Rattle.split_pass.specs.Faults.{fault_of, work_fault_of};
 
 use diamond_graph::ClosingFault;
 use std::alloc::AllocError;
@@ -14,6 +14,10 @@ use tri_stream::StreamFault;
 pub enum SplitFault {
     /// More than 67,108,864 diamonds would be split.
     TooManyRecords,
+    /// A call of the work file failed.
+    WorkFault,
+    /// The work file gave back what was never written to it, at this offset in bytes.
+    WorkDamage { offset: u64 },
     /// Memory ran out.
     Memory,
 }
@@ -27,11 +31,12 @@ impl From<AllocError> for SplitFault {
 }
 
 impl From<StreamFault> for SplitFault {
-    ghost from_gives = { λ _ e. e ≡ Memory };
+    ghost from_gives = { λ fault e. e ≡ work_fault_of fault };
 
     fn from(fault: StreamFault) -> SplitFault {
         match fault {
-            StreamFault::Memory => SplitFault::Memory,
+            StreamFault::WorkFault => SplitFault::WorkFault,
+            StreamFault::WorkDamage { offset } => SplitFault::WorkDamage { offset },
         }
     }
 }

@@ -1,14 +1,15 @@
 //! The triangles of one stream are put into the streams of their leaves.
 //!
-//! Which tetrahedra are crowded is found from the roots down, by dividing streams. Then the graph is known, and with it the leaf of each triangle.
+//! Which tetrahedra are crowded is found from the roots down, by dividing streams. Then the graph is known: the streams at which the search ended are
+//! divided on where their tetrahedra are split after all, and are those of the leaves.
 #![tactic(auto)]
 
 mod divide;
 mod fault;
 mod find;
 mod pass;
-mod place;
 mod root;
+mod settle;
 
 pub use fault::SplitFault;
 pub use pass::split;

@@ -1,7 +1,8 @@
 // The call that splits.
-ghost use Rattle.std.specs.Prelude.{◌≡◌, ◌≤◌, ◌<◌, [], ℕ, List, Some, Err, IfOk, length, is_some};
+ghost use Rattle.std.specs.Prelude.{◌≡◌, ◌≤◌, ◌<◌, [], ℕ, List, Some, None, Err, IfOk, length, is_some};
 ghost use Rattle.std.specs.Option.{ForSome};
 ghost use Rattle.std.specs.FinMap as map;
+ghost use Rattle.tpz_io.specs.Causes.{Rose};
 ghost use Rattle.tetra_name.specs.declared.shape.Tet.{Tet};
 ghost use Rattle.diamond_graph.specs.Adding.{most_centres};
 ghost use Rattle.diamond_graph.specs.Graphs.{centres, IsGraph};
@@ -13,7 +14,7 @@ ghost use Rattle.split_pass.specs.declared.fault.SplitFault.{SplitFault};
 
 use crate::fault::SplitFault;
 use crate::find::find_all;
-use crate::place::place_all;
+use crate::settle::settle_all;
 use assign::{Leaves, Split};
 use diamond_graph::Closing;
 use tpz_io::Blob;
@@ -22,8 +23,8 @@ use tri_stream::{StreamId, Streams};
 /// Splits the triangles of a stream: the graph holds the diamonds of the tetrahedra above the last level through which more than `cap` of them go,
 /// and all ancestors of these; each leaf of the graph that has a triangle gets a stream of its triangles, in their order. The stream ends.
 ///
-/// TooManyRecords comes exactly where the graph would have more than 67,108,864 diamonds, unless memory ran out. After a refusal the streams
-/// aren't used again.
+/// TooManyRecords comes exactly where the graph would have more than 67,108,864 diamonds, unless memory ran out or the work file failed. After a
+/// refusal the streams aren't used again.
 pub fn split<B: Blob>(
     streams: &mut Streams,
     work: &mut B,
@@ -54,12 +55,13 @@ pub fn split<B: Blob>(
     ensures total { IfOk result (λ split. total streams.new ≡ size_of streams.old whole) }
     ensures stays { Stays streams.old streams.new (B.held work.new) }
     ensures later { B.faults work.old ≤ B.faults work.new }
+    ensures work_fault { result ≡ Err SplitFault.WorkFault → Rose (B.faults work.old) (B.faults work.new) }
+    ensures work_damage { (offset : ℕ) → result ≡ Err (SplitFault.WorkDamage offset) → B.held work.old ≡ None }
     ensures telling { is_some (B.held work.new) ≡ is_some (B.held work.old) }
 {
     let l = closing.l();
-    find_all(streams, work, &mut closing, l, whole, cap)?;
+    find_all(streams, work, &mut closing, &mut leaves, l, whole, cap)?;
     let graph = closing.seal()?;
-    place_all(streams, work, &graph, &mut leaves, whole)?;
-    streams.give_back(work, whole)?;
+    settle_all(streams, work, &graph, &mut leaves)?;
     Ok(Split { graph, leaves })
 }

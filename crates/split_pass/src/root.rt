@@ -1,18 +1,25 @@
 // The triangles of a stream are copied into the streams of the six roots.
-ghost use Rattle.std.specs.Prelude.{◌≡◌, ◌≢◌, ◌≤◌, ◌<◌, ◌+◌, ◌^◌, ◌++◌, ◌∷◌, [], ℕ, List, Some, None, IfOk, IfErr, OnOk, IsTrue, filter, length, slice_get, is_some};
+ghost use Rattle.std.specs.Prelude.{◌≡◌, ◌≢◌, ◌≤◌, ◌<◌, ◌+◌, ◌^◌, ◌++◌, ◌∷◌, [], ℕ, List, Some, None, Err, IfOk, IfErr, OnOk, IsTrue, filter, length, slice_get, is_some};
 ghost use Rattle.std.specs.Option.{ForSome, option_map};
+ghost use Rattle.std.specs.FinMap as map;
+ghost use Rattle.tpz_io.specs.Causes.{Rose};
+ghost use Rattle.tetra_name.specs.declared.shape.Tet.{Tet};
+ghost use Rattle.tetra_name.specs.Names.{root_at, tetrahedron_of, IsBound};
 ghost use Rattle.tpz_base.specs.Meshes.{is_whole, Mesh};
 ghost use Rattle.tpz_base.specs.Roots.{is_in_root, root_part};
 ghost use Rattle.tri_stream.specs.declared.names.Cursor.{Cursor};
 ghost use Rattle.tri_stream.specs.declared.names.StreamId.{StreamId};
+ghost use Rattle.tri_stream.specs.declared.fault.StreamFault.{StreamFault};
 ghost use Rattle.tpz_base.specs.Cubes.{IsTriInCube};
 ghost use Rattle.tri_stream.specs.Streams.{told_list, total, IsLive, Stands, Follows, size_of, Stays};
 ghost use Rattle.split_pass.specs.declared.fault.SplitFault.{SplitFault};
+ghost use Rattle.split_pass.specs.Spread.{AllBelow, HoldsThrough, IsKeyed};
 ghost use Rattle.split_pass.specs.Moves.{AddsAll, AreApart, AreLive, IsNoneOf, LeavesAllOthers, MakesAll};
 
 use crate::fault::SplitFault;
-use assign::root_of;
+use assign::{Leaves, root_of};
 use std::alloc::AllocError;
+use tetra_name::root;
 use tpz_base::Tri;
 use tpz_io::Blob;
 use tri_stream::{StreamFault, StreamId, Streams};
@@ -45,6 +52,8 @@ fn send<B: Blob>(
     ensures total { OnOk result (total streams.new ≡ total streams.old + 1) }
     ensures stays { Stays streams.old streams.new (B.held work.new) }
     ensures later { B.faults work.old ≤ B.faults work.new }
+    ensures work_fault { result ≡ Err StreamFault.WorkFault → Rose (B.faults work.old) (B.faults work.new) }
+    ensures work_damage { (offset : ℕ) → result ≡ Err (StreamFault.WorkDamage offset) → B.held work.old ≡ None }
     ensures telling { is_some (B.held work.new) ≡ is_some (B.held work.old) }
 {
     let slot = root_of(&t);
@@ -72,6 +81,8 @@ fn send_all<B: Blob>(
     ensures total { OnOk result (total streams.new ≡ total streams.old + size_of streams.old whole) }
     ensures stays { Stays streams.old streams.new (B.held work.new) }
     ensures later { B.faults work.old ≤ B.faults work.new }
+    ensures work_fault { result ≡ Err StreamFault.WorkFault → Rose (B.faults work.old) (B.faults work.new) }
+    ensures work_damage { (offset : ℕ) → result ≡ Err (StreamFault.WorkDamage offset) → B.held work.old ≡ None }
     ensures telling { is_some (B.held work.new) ≡ is_some (B.held work.old) }
 {
     let mut at = streams.start(whole);
@@ -114,10 +125,57 @@ pub(crate) fn root_streams<B: Blob>(
     ensures total { OnOk result (total streams.new ≡ total streams.old + size_of streams.old whole) }
     ensures stays { Stays streams.old streams.new (B.held work.new) }
     ensures later { B.faults work.old ≤ B.faults work.new }
+    ensures work_fault { result ≡ Err SplitFault.WorkFault → Rose (B.faults work.old) (B.faults work.new) }
+    ensures work_damage { (offset : ℕ) → result ≡ Err (SplitFault.WorkDamage offset) → B.held work.old ≡ None }
     ensures telling { is_some (B.held work.new) ≡ is_some (B.held work.old) }
-    ensures memory { IfErr result (λ fault. fault ≡ SplitFault.Memory) }
+    ensures few_records { IfErr result (λ fault. fault ≢ SplitFault.TooManyRecords) }
 {
     let ids = make_roots(streams)?;
     send_all(streams, work, whole, ids)?;
     Ok(ids)
+}
+
+/// Names six streams by the roots.
+fn set_roots(leaves: &mut Leaves, l: u8, ids: [StreamId; 6]) -> Result<(), AllocError>
+    requires bound { IsBound l }
+    requires empty { leaves.old ≡ map.empty }
+    ensures names { OnOk result ((k : ℕ) (x : StreamId) → k < 6 → slice_get ids k ≡ Some x → (name : Tet) × (tetrahedron_of l name ≡ root_at l k) × (map.get leaves.new name ≡ Some x)) }
+    ensures only { OnOk result ((name : Tet) (x : StreamId) → map.get leaves.new name ≡ Some x → (k : ℕ) × (k < 6) × (slice_get ids k ≡ Some x) × (tetrahedron_of l name ≡ root_at l k)) }
+{
+    'slots: for slot in 0..6 {
+        leaves.set(root(slot, l), stream_at(ids, slot))?;
+    }
+    Ok(())
+}
+
+/// The stream of each root, named in the place of the one that had all.
+pub(crate) fn name_roots<B: Blob>(
+    streams: &mut Streams,
+    work: &mut B,
+    leaves: &mut Leaves,
+    l: u8,
+    whole: StreamId,
+) -> Result<(), SplitFault>
+    requires bound { IsBound l }
+    requires empty { leaves.old ≡ map.empty }
+    requires live { IsLive streams.old whole }
+    requires only { (id : StreamId) → IsLive streams.old id → id ≡ whole }
+    requires stands { ForSome (B.held work.old) (Stands streams.old) }
+    requires few { size_of streams.old whole ≤ 2147483648 }
+    ensures keyed { OnOk result (IsKeyed leaves.new streams.new) }
+    ensures below { OnOk result (AllBelow l [] leaves.new) }
+    ensures holds { OnOk result (ForSome (told_list streams.old (B.held work.old) whole) (λ M. HoldsThrough l M leaves.new streams.new (B.held work.new))) }
+    ensures roots { OnOk result ((name : Tet) (k : ℕ) → k < 6 → tetrahedron_of l name ≡ root_at l k → (x : StreamId) × (map.get leaves.new name ≡ Some x)) }
+    ensures total { OnOk result (total streams.new ≡ size_of streams.old whole) }
+    ensures stays { Stays streams.old streams.new (B.held work.new) }
+    ensures later { B.faults work.old ≤ B.faults work.new }
+    ensures work_fault { result ≡ Err SplitFault.WorkFault → Rose (B.faults work.old) (B.faults work.new) }
+    ensures work_damage { (offset : ℕ) → result ≡ Err (SplitFault.WorkDamage offset) → B.held work.old ≡ None }
+    ensures telling { is_some (B.held work.new) ≡ is_some (B.held work.old) }
+    ensures few_records { IfErr result (λ fault. fault ≢ SplitFault.TooManyRecords) }
+{
+    let ids = root_streams(streams, work, whole)?;
+    streams.give_back(work, whole)?;
+    set_roots(leaves, l, ids)?;
+    Ok(())
 }

@@ -1,13 +1,13 @@
 -- The words ask for one job, whose answer is that of the command.
-use Rattle.std.proofs.Common.{◌≡◌, ℕ, refl, sym, ap, ◌∙◌, inr}
+use Rattle.std.proofs.Common.{refl, sym, ap, ◌∙◌}
 use Rattle.std.specs.Prelude.{Some, Err}
 use Rattle.tpz_base.specs.Cubes.{level_bound}
 use Rattle.ply_body.specs.Inputs.{mesh_of}
-use Rattle.puzzle_cli.specs.declared.jobs.Job.TheVariants.{Finest, Build, Gen, Info, Replay, Tour}
-use Rattle.puzzle_cli.specs.declared.status.Status.TheVariants as status
+use Rattle.command_words.specs.declared.jobs.Job.TheVariants.{Finest, Build, Gen, Info, Replay, Tour}
+use Rattle.run_status.specs.declared.status.Status.TheVariants as status
 use Rattle.puzzle_cli.specs.Touches.{Devices}
 use Rattle.puzzle_cli.proofs.RootCut.{each_once}
-use Rattle.puzzle_cli.proofs.JobRanges.{asked_digits, asked_plan, asked_replay, asked_size, asked_tour, asked_tries}
+use Rattle.command_words.proofs.JobRanges.{asked_digits, asked_plan, asked_replay, asked_size, asked_tour, asked_tries}
 use Rattle.puzzle_cli.proofs.JobRuns.{same_build, same_finest, same_gen, same_info, same_replay, other_job, some_or_none, touched, finest_unstarted, gen_unstarted, info_unstarted, never, never_told, gen_complete, info_run}
 use Rattle.puzzle_cli.proofs.BuildRuns.{build_unstarted}
 use Rattle.puzzle_cli.proofs.ReplayRuns.{not_replayed, replay_unstarted}

@@ -1,6 +1,6 @@
 -- The input is built, and its note written.
-use Rattle.std.proofs.Common.{refl, sym, ap, subst, inl, inr, ◌∙◌, ◌≡◌, Err}
-use Rattle.puzzle_cli.specs.declared.status.Status.TheVariants as status
+use Rattle.std.proofs.Common.{refl, ap, inl, inr, Err}
+use Rattle.run_status.specs.declared.status.Status.TheVariants as status
 use Rattle.puzzle_cli.proofs.BuildRuns.{built_run, unbuilt_run}
 use Rattle.puzzle_cli.proofs.BuildSteps.{err_is}
 use Rattle.puzzle_cli.proofs.InfoLemmas.{isnt}

@@ -1,5 +1,5 @@
 -- The store is claimed, the input read, and its stream built.
-use Rattle.std.proofs.Common.{◌≡◌, ◌≤◌, ◌<◌, Err, ap, length, refl, subst, inl, inr}
+use Rattle.std.proofs.Common.{◌≡◌, ◌≤◌, ◌<◌, Err, ap, length, refl, subst, inl, inr, sym, ◌∙◌, ◌⊎◌, arith}
 use Rattle.std.specs.Option.{ForSome}
 use Rattle.diamond_graph.specs.Adding.{most_centres}
 use Rattle.ply_body.specs.Inputs.{mesh_of}
@@ -7,9 +7,11 @@ use Rattle.assign.specs.Splits.{split_set}
 use Rattle.patch_file.specs.declared.shape.Params.{Params}
 use Rattle.build_pass.specs.Building.{store_of, IsBuildable}
 use Rattle.puzzle_cli.specs.Build.{input_store, IsLeft}
+use Rattle.run_status.specs.declared.status.Status.TheVariants as status
 use Rattle.puzzle_cli.specs.Finest.{digits_of}
-use Rattle.puzzle_cli.proofs.ReadLemmas.{told_later}
-use Rattle.puzzle_cli.proofs.BuildSteps.{err_is, params_same, summary_same, unread_never, unread_unbuilt}
+use Rattle.run_status.specs.Statuses.{IsOfStreams}
+use Rattle.tri_stream.proofs.Changes.{untold_before}
+use Rattle.puzzle_cli.proofs.BuildSteps.{err_is, params_same, stored_never, stored_not_refused, stored_unbuilt, summary_same, unread_never, unread_unbuilt}
 use Rattle.puzzle_cli.proofs.building.store_input.Goals as goal
 
 pub returns-in-Err-read_stream-clause-accepted : goal.returns-in-Err-read_stream-clause-accepted
@@ -65,3 +67,42 @@ returns-in-Err-store_stream-clause-after g c = λ bytes told held keeps rows fac
     subst (λ before. IsLeft before now (input_store c.args.plan.cap c.args.plan.budget (digits_of c.args.plan.digits bytes) rows faces)) c.claim.ensures.held
     (subst (λ (p : Params). IsLeft (g.S.Blob.held c.claim.new.store) now (store_of (mesh_of rows faces) p))
     (params_same c.args.plan.cap c.args.plan.budget _ c.in-Ok-read_stream.read _ rows faces is) (c.in-Err-store_stream.ensures.refused (mesh_of rows faces) is.list))
+
+pub returns-in-Err-store_stream-clause-status : goal.returns-in-Err-store_stream-clause-status
+returns-in-Err-store_stream-clause-status g c = stored_unbuilt c.in-Err-store_stream.status c.in-Err-store_stream.ensures.status
+
+pub returns-in-Err-store_stream-clause-refused : goal.returns-in-Err-store_stream-clause-refused
+returns-in-Err-store_stream-clause-refused g c = λ answer e refused.
+    absurd (stored_not_refused answer (subst (λ s. (s ≡ status.StoreFault) ⊎ ((s ≡ status.TooManyRecords) ⊎ IsOfStreams s)) (err_is _ _ e) c.in-Err-store_stream.ensures.status) refused)
+
+pub returns-in-Err-store_stream-clause-not_empty : goal.returns-in-Err-store_stream-clause-not_empty
+returns-in-Err-store_stream-clause-not_empty g c = λ len e.
+    stored_never _ _ c.in-Err-store_stream.ensures.status (err_is _ _ e) (λ f. cc) (λ f. cc) (λ f. cc) (λ f. cc) (λ offset f. cc)
+
+pub returns-in-Err-store_stream-clause-input_fault : goal.returns-in-Err-store_stream-clause-input_fault
+returns-in-Err-store_stream-clause-input_fault g c = λ e.
+    stored_never _ _ c.in-Err-store_stream.ensures.status (err_is _ _ e) (λ f. cc) (λ f. cc) (λ f. cc) (λ f. cc) (λ offset f. cc)
+
+pub returns-in-Err-store_stream-clause-work_fault : goal.returns-in-Err-store_stream-clause-work_fault
+returns-in-Err-store_stream-clause-work_fault g c = λ e.
+    let rose = c.in-Err-store_stream.ensures.work_fault (ap Err (err_is _ _ e)) in
+    let first = c.read_stream.ensures.work_later in
+    omega arith
+
+pub returns-in-Err-store_stream-clause-work_damage : goal.returns-in-Err-store_stream-clause-work_damage
+returns-in-Err-store_stream-clause-work_damage g c = λ offset e.
+    untold_before _ _ c.read_stream.ensures.telling (c.in-Err-store_stream.ensures.work_damage offset (ap Err (err_is _ _ e)))
+
+pub returns-in-Err-store_stream-clause-before : goal.returns-in-Err-store_stream-clause-before
+returns-in-Err-store_stream-clause-before g c = λ answer e store memory work damage.
+    let same = err_is _ _ e in
+    elim c.in-Err-store_stream.ensures.status [
+      | inl is ↦ absurd (store (sym same ∙ is))
+      | inr k ↦ elim k [
+        | inl is ↦ c.in-Err-store_stream.ensures.before (ap Err is) ∙ c.claim.ensures.held
+        | inr m ↦ elim m [
+          | inl is ↦ absurd (memory (sym same ∙ is))
+          | inr n ↦ elim n [ inl is ↦ absurd (work (sym same ∙ is)) | inr is ↦ absurd (damage is.0 (sym same ∙ is.1)) ]
+        ]
+      ]
+    ]

@@ -1,5 +1,5 @@
 -- The split of the stream is built.
-use Rattle.std.proofs.Common.{◌≡◌, ◌≤◌, ◌⊎◌, Err, ap, length, subst, inl, inr}
+use Rattle.std.proofs.Common.{◌≡◌, ◌≤◌, ◌⊎◌, Err, ap, length, subst, inl, inr, arith}
 use Rattle.std.specs.Option.{ForSome}
 use Rattle.tpz_base.specs.Meshes.{Mesh}
 use Rattle.diamond_graph.specs.Adding.{most_centres}
@@ -9,8 +9,10 @@ use Rattle.assign.specs.Standing.{HoldsPatches}
 use Rattle.patch_file.specs.declared.shape.Params.{Params}
 use Rattle.patch_file.specs.Written.{ReadsUnfinished}
 use Rattle.build_pass.specs.Building.{greatest_fine, store_of}
+use Rattle.tri_stream.proofs.Changes.{untold_before}
 use Rattle.puzzle_cli.proofs.ReadLemmas.{told_later}
-use Rattle.puzzle_cli.proofs.BuildSteps.{build_told, built_is, err_is, never_too_many, split_at, store_fault_told, stream_buildable, told_bytes}
+use Rattle.run_status.proofs.StreamFaults.{split_told, split_was_damage, split_was_fault}
+use Rattle.puzzle_cli.proofs.BuildSteps.{build_told, build_was_damage, build_was_fault, built_is, err_is, never_too_many, split_at, store_fault_told, stream_buildable, told_bytes}
 use Rattle.puzzle_cli.proofs.building.store_stream.Goals as goal
 
 pub returns-in-Ok-build-clause-built : goal.returns-in-Ok-build-clause-built
@@ -67,3 +69,24 @@ returns-clause-status g c = build_told _ _ c.status_of_build.ensures
 
 pub returns-clause-cause : goal.returns-clause-cause
 returns-clause-cause g c = λ e. c.in-Err-build.ensures.cause (ap Err (store_fault_told _ _ c.status_of_build.ensures (err_is _ _ e)))
+
+pub returns-clause-work_fault : goal.returns-clause-work_fault
+returns-clause-work_fault g c = λ e.
+    let rose = c.in-Err-build.ensures.work_fault (ap Err (build_was_fault _ _ c.status_of_build.ensures (err_is _ _ e))) in
+    let first = c.split.ensures.later in
+    omega arith
+
+pub returns-clause-work_damage : goal.returns-clause-work_damage
+returns-clause-work_damage g c = λ offset e.
+    untold_before _ _ c.split.ensures.telling
+    (c.in-Err-build.ensures.work_damage offset (ap Err (build_was_damage _ _ offset c.status_of_build.ensures (err_is _ _ e))))
+
+pub returns-in-Err-clause-status : goal.returns-in-Err-clause-status
+returns-in-Err-clause-status g c = inr (split_told _ _ c.status_of_split.ensures)
+
+pub returns-in-Err-clause-work_fault : goal.returns-in-Err-clause-work_fault
+returns-in-Err-clause-work_fault g c = λ e. c.in-Err.ensures.work_fault (ap Err (split_was_fault _ _ c.status_of_split.ensures (err_is _ _ e)))
+
+pub returns-in-Err-clause-work_damage : goal.returns-in-Err-clause-work_damage
+returns-in-Err-clause-work_damage g c = λ offset e.
+    c.in-Err.ensures.work_damage offset (ap Err (split_was_damage _ _ offset c.status_of_split.ensures (err_is _ _ e)))

@@ -1,9 +1,8 @@
 -- Part after part.
-use Rattle.std.proofs.Common.{◌≡◌, ◌<◌, ◌*◌, sym, refl, ◌∙◌, ap, subst, arith}
+use Rattle.std.proofs.Common.{sym, refl, ◌∙◌, ap, arith}
 use Rattle.std.proofs.Common.{Vec, Global}
 use Rattle.patch_view.specs.declared.PatchView.{PatchView}
 use Rattle.patch_view.specs.Views.{mesh_of}
-use Rattle.tpz_base.specs.Tetrahedra.{parts}
 use Rattle.tetra_name.specs.Names.{point_of}
 use Rattle.view_cut.proofs.Parts.{few_members, part_named, parts-length}
 use Rattle.puzzle_cli.proofs.ShownLaw.{part_added, part_passed, patch_there}

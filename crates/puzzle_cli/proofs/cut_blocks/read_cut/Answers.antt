@@ -1,9 +1,8 @@
 -- Record after record.
-use Rattle.std.proofs.Common.{◌≡◌, ℕ, ◌+◌, ap, refl, sym, ◌∙◌, subst, Bool, false, Err, arith, get_or, length, length-append, ◌∷◌, []}
+use Rattle.std.proofs.Common.{◌≡◌, ◌+◌, ap, refl, sym, ◌∙◌, subst, Err, arith, get_or, length, length-append, ◌∷◌, []}
 use Rattle.std.specs.Prelude.{All, flat_map}
 use Rattle.std.proofs.lemmas.List.Elements.{All-nil, All-push, Contains-get_or}
 use Rattle.std.proofs.lemmas.Option.{slice_get-get_or}
-use Rattle.patch_file.specs.Asking.{HasAsked}
 use Rattle.patch_file.proofs.AskingLaw.{asked_both, asked_none, asked_some}
 use Rattle.view_cut.specs.Sets.{centres_at}
 use Rattle.puzzle_cli.specs.Shown.{outer_patches_at, shown_patches, stored_in, IsNamed}

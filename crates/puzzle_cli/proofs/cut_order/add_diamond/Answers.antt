@@ -1,5 +1,5 @@
 -- Each member's children add what they have.
-use Rattle.std.proofs.Common.{◌≤◌, sym, subst, arith, List}
+use Rattle.std.proofs.Common.{◌≤◌, sym, subst, arith, List, refl, ◌∙◌}
 use Rattle.tpz_base.specs.Tetrahedra.{Tetrahedron, children, members}
 use Rattle.tetra_name.specs.Names.{count_of, point_of, IsName}
 use Rattle.diamond_graph.specs.Graphs.{centres}
@@ -15,6 +15,7 @@ members-init g c = record {
   numbering = c.requires.numbering;
   kept = keeps_self _ _ c.requires.stands;
   later = omega arith;
+  telling = refl;
 }
 
 pub members-preserved : goal.members-preserved
@@ -31,6 +32,7 @@ members-preserved g c =
       numbering = c.in_ok-add_children.ensures.numbering;
       kept = keeps_both inv.kept c.add_children.ensures.kept;
       later = let a = inv.later in let b = c.add_children.ensures.later in omega arith;
+      telling = c.add_children.ensures.telling ∙ inv.telling;
     }
 
 pub returns-clause-mesh : goal.returns-clause-mesh

@@ -1,6 +1,6 @@
 -- What the members so far add has been added.
-use Rattle.std.proofs.Common.{◌≤◌}
-use Rattle.std.specs.Prelude.{take, flat_map}
+use Rattle.std.proofs.Common.{◌≡◌, ◌≤◌}
+use Rattle.std.specs.Prelude.{is_some, take, flat_map}
 use Rattle.tpz_base.specs.Tetrahedra.{children, members}
 use Rattle.diamond_graph.specs.Graphs.{centres}
 use Rattle.tetra_name.specs.Names.{point_of}
@@ -16,4 +16,5 @@ invariant-members g l =
       numbering : IsNumbering l.numbered;
       kept : KeepsStreams l.fn.streams l.streams (held l.fn.work) (held l.work);
       later : g.W.Blob.faults l.fn.work ≤ g.W.Blob.faults l.work;
+      telling : is_some (held l.work) ≡ is_some (held l.fn.work);
     }

@@ -1,5 +1,5 @@
 -- Each diamond that is split adds what its members' children have.
-use Rattle.std.proofs.Common.{◌≡◌, ◌≤◌, length, sym, ap, subst, arith, List}
+use Rattle.std.proofs.Common.{◌≡◌, ◌≤◌, length, sym, ap, subst, arith, List, refl, ◌∙◌}
 use Rattle.std.specs.Prelude.{flat_map}
 use Rattle.std.proofs.lemmas.List.{length-map, take_all}
 use Rattle.tpz_base.specs.Tetrahedra.{Tetrahedron, parts}
@@ -17,6 +17,7 @@ diamonds-init g c = record {
   numbering = c.requires.numbering;
   kept = keeps_self _ _ c.requires.stands;
   later = omega arith;
+  telling = refl;
 }
 
 pub diamonds-preserved : goal.diamonds-preserved
@@ -31,6 +32,7 @@ diamonds-preserved g c =
       numbering = c.in_ok-add_diamond.ensures.numbering;
       kept = keeps_both inv.kept c.add_diamond.ensures.kept;
       later = let a = inv.later in let b = c.add_diamond.ensures.later in omega arith;
+      telling = c.add_diamond.ensures.telling ∙ inv.telling;
     }
 
 pub add_diamond-requires-clause-centre : goal.add_diamond-requires-clause-centre

@@ -1,6 +1,6 @@
 -- What the diamonds so far add has been added.
-use Rattle.std.proofs.Common.{◌≤◌}
-use Rattle.std.specs.Prelude.{take, flat_map}
+use Rattle.std.proofs.Common.{◌≡◌, ◌≤◌}
+use Rattle.std.specs.Prelude.{is_some, take, flat_map}
 use Rattle.tpz_base.specs.Tetrahedra.{parts}
 use Rattle.diamond_graph.specs.Graphs.{centres}
 use Rattle.puzzle_cli.specs.Leaves.{Adds, KeepsStreams}
@@ -15,4 +15,5 @@ invariant-diamonds g l =
       numbering : IsNumbering l.numbered;
       kept : KeepsStreams l.fn.streams l.streams (held l.fn.work) (held l.work);
       later : g.W.Blob.faults l.fn.work ≤ g.W.Blob.faults l.work;
+      telling : is_some (held l.work) ≡ is_some (held l.fn.work);
     }

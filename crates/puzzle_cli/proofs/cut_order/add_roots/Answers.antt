@@ -1,5 +1,5 @@
 -- Each root adds what it has.
-use Rattle.std.proofs.Common.{◌≡◌, arith}
+use Rattle.std.proofs.Common.{◌≡◌, arith, refl, ◌∙◌}
 use Rattle.tetra_name.specs.Names.{tetrahedron_of, root_at}
 use Rattle.diamond_graph.specs.Graphs.{centres}
 use Rattle.cut_export.specs.Numbering.{numbered_mesh}
@@ -12,6 +12,7 @@ roots-init g c = record {
   numbering = c.requires.numbering;
   kept = keeps_self _ _ c.requires.stands;
   later = omega arith;
+  telling = refl;
 }
 
 pub roots-preserved : goal.roots-preserved
@@ -24,6 +25,7 @@ roots-preserved g c =
       numbering = c.in_ok-add_leaf.ensures.numbering;
       kept = keeps_both inv.kept c.add_leaf.ensures.kept;
       later = let a = inv.later in let b = c.add_leaf.ensures.later in omega arith;
+      telling = c.add_leaf.ensures.telling ∙ inv.telling;
     }
 
 pub returns-clause-mesh : goal.returns-clause-mesh

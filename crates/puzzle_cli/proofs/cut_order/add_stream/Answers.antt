@@ -32,6 +32,7 @@ triangles-preserved g c =
         stands = c.read.ensures.kept.stands;
       };
       later = let b = c.read.ensures.later in let d = inv.later in omega arith;
+      telling = c.read.ensures.kept.front.same_telling ∙ inv.telling;
     }
 
 pub returns-clause-mesh : goal.returns-clause-mesh

@@ -1,6 +1,6 @@
 -- The triangles that were read have been added.
 use Rattle.std.proofs.Common.{◌≡◌, ◌≤◌, ◌-◌, ◌++◌}
-use Rattle.std.specs.Prelude.{take}
+use Rattle.std.specs.Prelude.{is_some, take}
 use Rattle.std.specs.Option.{ForSome, unwrap_or}
 use Rattle.tri_stream.specs.Streams.{count_of, told_list, Follows}
 use Rattle.puzzle_cli.specs.Leaves.{KeepsStreams}
@@ -18,6 +18,7 @@ invariant-triangles g l =
       numbering : IsNumbering l.numbered;
       kept : KeepsStreams l.fn.streams l.streams (held l.fn.work) (held l.work);
       later : g.W.Blob.faults l.fn.work ≤ g.W.Blob.faults l.work;
+      telling : is_some (held l.work) ≡ is_some (held l.fn.work);
     }
 
 abbrev pub decreases-triangles : goal.decreases-triangles

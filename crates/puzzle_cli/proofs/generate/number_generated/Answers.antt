@@ -1,5 +1,5 @@
 -- One triangle is numbered after another.
-use Rattle.std.proofs.Common.{◌≡◌, ◌∷◌, ◌++◌, [], List, sym, ap, ap₂, ◌∙◌, get_or}
+use Rattle.std.proofs.Common.{◌∷◌, ◌++◌, [], List, sym, ap₂, ◌∙◌}
 use Rattle.std.proofs.lemmas.List.{take_more}
 use Rattle.std.proofs.lemmas.Option.{get_or_from_slice_get, slice_get_within}
 use Rattle.tpz_base.specs.declared.shape.Tri.{Tri}

@@ -1,7 +1,7 @@
 use Rattle.std.specs.Option.{unwrap_or}
 use Rattle.std.proofs.Common.{refl, sym, ◌∙◌, ap, subst, Err}
 use Rattle.ply_body.specs.Inputs.{InHead, InBody}
-use Rattle.puzzle_cli.specs.Statuses.{IsRefused}
+use Rattle.run_status.specs.Statuses.{IsRefused}
 use Rattle.puzzle_cli.specs.Finest.{digits_by}
 use Rattle.puzzle_cli.proofs.ReadLemmas.{head_told, same_status, refusal_of_head, refusal_of_body, damage_of_body, input_by, opened_means}
 use Rattle.puzzle_cli.proofs.reading.open_input.Goals as goal

@@ -1,8 +1,9 @@
-use Rattle.std.proofs.Common.{refl, sym, ◌∙◌, ap, subst}
+use Rattle.std.proofs.Common.{refl, sym, ◌∙◌, subst}
 use Rattle.tpz_base.specs.Cubes.{low_of}
 use Rattle.ply_body.proofs.CubeRows.{frame_spots}
-use Rattle.puzzle_cli.specs.Statuses.{IsRefused}
-use Rattle.puzzle_cli.proofs.ReadLemmas.{same_status, accepted_by, all_read, refused_by, low_small, told_later, untold_before}
+use Rattle.run_status.specs.Statuses.{IsRefused}
+use Rattle.tri_stream.proofs.Changes.{untold_before}
+use Rattle.puzzle_cli.proofs.ReadLemmas.{same_status, accepted_by, all_read, refused_by, low_small, told_later}
 use Rattle.puzzle_cli.proofs.reading.read_mesh.Goals as goal
 
 pub read_tris-requires-clause-frame : goal.read_tris-requires-clause-frame

@@ -1,5 +1,5 @@
-use Rattle.std.proofs.Common.{ℕ, ◌+◌, length, refl, sym, ◌∙◌, ap, subst, arith, inl, inr, [], ◌∷◌, ◌++◌, Ok, Err}
-use Rattle.puzzle_cli.specs.Statuses.{body_status, IsRefused}
+use Rattle.std.proofs.Common.{ℕ, ◌+◌, length, refl, sym, ◌∙◌, ap, subst, arith, [], ◌∷◌, ◌++◌, Ok}
+use Rattle.run_status.specs.Statuses.{IsRefused}
 use Rattle.std.specs.Prelude.{All}
 use Rattle.std.specs.Option.{ForSome}
 use Rattle.std.proofs.lemmas.List.{length_push}

@@ -1,15 +1,14 @@
-use Rattle.std.proofs.Common.{◌≡◌, ℕ, ◌+◌, take, length, refl, sym, ◌∙◌, ap, subst, arith, [], ◌∷◌, ◌++◌, Ok, Err}
+use Rattle.std.proofs.Common.{ℕ, ◌+◌, refl, sym, ◌∙◌, ap, subst, arith, [], ◌∷◌, ◌++◌, Ok}
 use Rattle.std.specs.Option.{ForSome}
 use Rattle.std.proofs.lemmas.List.{length_push}
 use Rattle.std.proofs.lemmas.List.Elements.{All-nil, All-push}
 use Rattle.tri_stream.specs.Lists.{IsHeld}
 use Rattle.tpz_base.specs.Cubes.{IsTriInCube}
-use Rattle.tpz_io.specs.Told.{Changes}
 use Rattle.tri_stream.specs.Streams.{Stands}
 use Rattle.puzzle_cli.specs.Leaves.{Fills}
-use Rattle.puzzle_cli.specs.Statuses.{body_status, IsRefused}
+use Rattle.run_status.specs.Statuses.{IsRefused}
 use Rattle.puzzle_cli.proofs.Filling.{fills_none, fills_one, still_live}
-use Rattle.puzzle_cli.proofs.ReadLemmas.{none_read, more_read, read_refused, read_all, none_whole, one_whole, no_more_whole, same_status, not_refused_yet, refusal_of_body, given_before, lost_before, points_kept, fronts_join, same_front, untold_before, AllLost, OneGiven}
+use Rattle.puzzle_cli.proofs.ReadLemmas.{none_read, more_read, read_refused, read_all, none_whole, one_whole, no_more_whole, same_status, not_refused_yet, refusal_of_body, given_before, lost_before, points_kept, fronts_join, same_front, KeepsFront}
 use Rattle.puzzle_cli.proofs.reading.stream_tris.Goals as goal
 
 pub tris-init : goal.tris-init
@@ -81,7 +80,7 @@ tris-preserved g c =
     let more = given_before c.args.frame.now c.args.frame.now.end _ _ given.0 given.1 t inv.front c.requires.end given.3 in
     let held = c.next_tri.ensures.held in
     let so_far = subst (λ h. Fills c.args.whole read.1 c.args.streams.now c.tris.streams (g.W.Blob.held c.args.work.now) h) (sym held) read.5 in
-    let front = subst (λ h. Changes (λ bytes bytes'. take c.args.frame.now.end bytes' ≡ take c.args.frame.now.end bytes) (g.W.Blob.held c.args.work.now) h) (sym held) inv.front in
+    let front = subst (λ h. KeepsFront c.args.frame.now.end (g.W.Blob.held c.args.work.now) h) (sym held) inv.front in
     let base = inv.base ∙ c.requires.base in
     let joined = fronts_join c.args.frame.now.end c.tris.streams.base _ _ _ base front c.append.ensures.kept.front in
     record {

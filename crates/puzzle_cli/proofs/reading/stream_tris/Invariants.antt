@@ -1,14 +1,14 @@
-use Rattle.std.proofs.Common.{◌≡◌, ◌≤◌, List, ◌+◌, ◌-◌, None, Some, take}
+use Rattle.std.proofs.Common.{◌≡◌, ◌≤◌, List, ◌+◌, ◌-◌, None, Some}
 use Rattle.std.specs.Option.{ForSome, option_map}
 use Rattle.std.specs.Prelude.{length, All}
 use Rattle.tpz_base.specs.Meshes.{Mesh}
 use Rattle.tpz_base.specs.Texts.{Face}
-use Rattle.tpz_io.specs.Told.{Changes}
 use Rattle.tri_stream.specs.Lists.{IsHeld}
 use Rattle.ply_body.specs.Spots.{HoldsPoints}
 use Rattle.ply_body.specs.Readings.{coming_told, with_faces}
 use Rattle.puzzle_cli.specs.Leaves.{Fills}
 use Rattle.puzzle_cli.specs.Readings.{AreWhole}
+use Rattle.puzzle_cli.proofs.ReadLemmas.{KeepsFront}
 use Rattle.puzzle_cli.proofs.reading.stream_tris.Given as goal
 
 abbrev pub invariant-tris : goal.invariant-tris
@@ -18,7 +18,7 @@ invariant-tris g l = record {
   few : l.faces.given + l.faces.dropped ≤ 2147483648;
   points : ForSome (g.W.Blob.held l.work) (HoldsPoints l.frame);
   base : l.streams.base ≡ l.fn.streams.base;
-  front : Changes (λ bytes bytes'. take l.frame.end bytes' ≡ take l.frame.end bytes) (g.W.Blob.held l.fn.work) (g.W.Blob.held l.work);
+  front : KeepsFront l.frame.end (g.W.Blob.held l.fn.work) (g.W.Blob.held l.work);
   read : (faces : List Face) × (tris : Mesh)
       × (coming_told l.fn.faces (g.I.Source.left l.fn.input) ≡ option_map (with_faces faces) (coming_told l.faces (g.I.Source.left l.input)))
       × AreWhole l.frame (g.W.Blob.held l.fn.work) faces tris l.faces.dropped × (length tris ≡ l.faces.given)

@@ -1,8 +1,6 @@
 -- Line after line.
-use Rattle.std.proofs.Common.{◌≡◌, ◌∙◌, ℕ, ◌+◌, ◌-◌, ◌<◌, OnSome, ap, refl, sym, subst, arith, Ok, Err, Some, None, []}
-use Rattle.std.specs.Option.{ForSome}
-use Rattle.script_text.specs.Commands.{read_line}
-use Rattle.puzzle_cli.specs.Statuses.{IsOfLines}
+use Rattle.std.proofs.Common.{◌∙◌, ◌+◌, ◌<◌, OnSome, ap, refl, sym, subst, arith, Ok, Err}
+use Rattle.run_status.specs.Statuses.{IsOfLines}
 use Rattle.puzzle_cli.specs.Shown.{stored_in}
 use Rattle.puzzle_cli.specs.Plays.{play}
 use Rattle.patch_file.proofs.AskingLaw.{asked_both}

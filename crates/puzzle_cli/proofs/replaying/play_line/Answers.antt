@@ -2,22 +2,21 @@
 use Rattle.std.proofs.Common.{rules, w64, ◌≡◌, ◌^◌, ℕ, ◌+◌, ◌≤◌, List, [], length, Bool, true, ap, refl, sym, ◌∙◌, subst, Option, Some, None}
 use mir.Val.{SFits, of_z, to_z}
 use Rattle.std.proofs.lemmas.Int.{to_z-of_z}
-use Rattle.std.specs.Prelude.{ℤ, ◌&&◌, nat_lt, Contains, IsTrue, OnErr, OnOk, Err}
-use Rattle.std.specs.Option.{ForSome}
+use Rattle.std.specs.Prelude.{ℤ, ◌&&◌, nat_lt, Contains}
 use Rattle.std.proofs.lemmas.Bool.{and_parts}
 use Rattle.tpz_io.specs.Writes.{Wrote}
 use Rattle.script_text.specs.declared.line.Line.{Line}
-use Rattle.script_text.specs.declared.line.Line.TheVariants.{Look, Write}
+use Rattle.script_text.specs.declared.line.Line.TheVariants.{Look}
 use Rattle.script_text.specs.Commands.{is_in_bounds, is_near}
 use Rattle.patch_file.specs.declared.shape.Params.{Params}
 use Rattle.patch_file.proofs.AskingLaw.{asked_none}
-use Rattle.puzzle_cli.specs.Plays.{Play, asks, first_wrong, shows, step, view_at}
+use Rattle.puzzle_cli.specs.Plays.{asks, first_wrong, shows, step, view_at}
 use Rattle.puzzle_cli.specs.Playing.{IsPlaying}
 use Rattle.puzzle_cli.specs.Shown.{stored_in}
 use Rattle.puzzle_cli.proofs.Exports.{nothing}
-use Rattle.puzzle_cli.proofs.OpenLaw.{found_wrong, no_wrong, same_status}
+use Rattle.puzzle_cli.proofs.OpenLaw.{found_wrong, no_wrong}
 use Rattle.puzzle_cli.proofs.ShownLaw.{asked_refused_at}
-use Rattle.puzzle_cli.proofs.PlayLaw.{looked_is, on_err, on_err_map, on_ok, on_ok_both, open_kept, part_is, written_is}
+use Rattle.puzzle_cli.proofs.PlayLaw.{looked_is, on_err, on_err_map, on_ok, open_kept, part_is, written_is}
 use Rattle.puzzle_cli.proofs.replaying.play_line.Goals as goal
 
 bounds_of : (x y z : ℤ) (tol : ℕ) → is_in_bounds (Look x y z tol) ≡ true → (is_near y ≡ true) × (is_near z ≡ true)

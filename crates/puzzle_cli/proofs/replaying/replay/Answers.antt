@@ -1,11 +1,10 @@
 -- The opening, the lines, and the note.
-use Rattle.std.proofs.Common.{◌≡◌, ap, refl, sym, ◌∙◌, subst, inl, inr, Err, arith}
-use Rattle.puzzle_cli.specs.declared.status.Status.TheVariants as status
+use Rattle.std.proofs.Common.{ap, refl, ◌∙◌, subst, inl, inr, Err}
+use Rattle.run_status.specs.declared.status.Status.TheVariants as status
 use Rattle.puzzle_cli.specs.Shown.{AreCounted}
 use Rattle.puzzle_cli.proofs.InfoLemmas.{isnt}
-use Rattle.puzzle_cli.proofs.OpenLaw.{same_status}
 use Rattle.puzzle_cli.proofs.Progress.{rose_later}
-use Rattle.puzzle_cli.proofs.ReplayRuns.{counted_asked, finished_run, lines_of_replay, note_of_replay, open_of_replay, open_start, unfinished_run, unopened_run}
+use Rattle.puzzle_cli.proofs.ReplayRuns.{counted_asked, finished_run, lines_of_replay, note_of_replay, open_start, unfinished_run, unopened_run}
 use Rattle.puzzle_cli.proofs.replaying.replay.Goals as goal
 
 pub returns-in-Err-clause-run : goal.returns-in-Err-clause-run

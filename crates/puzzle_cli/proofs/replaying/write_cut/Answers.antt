@@ -1,7 +1,6 @@
 -- The blocks, the views, and the part.
-use Rattle.std.proofs.Common.{◌≡◌, ◌∷◌, [], List, ℕ, ◌<◌, ap, ap₂, refl, sym, ◌∙◌, subst, Err, length}
+use Rattle.std.proofs.Common.{◌∷◌, [], List, ap, ap₂, sym, ◌∙◌, subst, length}
 use Rattle.std.specs.Prelude.{All, Contains}
-use Rattle.std.proofs.lemmas.List.Elements.{All-contains}
 use Rattle.tpz_base.specs.Meshes.{Mesh}
 use Rattle.tpz_base.specs.Texts.{text}
 use Rattle.tpz_io.specs.Told.{followed_by}
@@ -11,11 +10,9 @@ use Rattle.patch_view.specs.Views.{mesh_of}
 use Rattle.patch_file.specs.declared.shape.Params.{Params}
 use Rattle.patch_file.specs.Patches.{joined}
 use Rattle.patch_file.specs.Tables.{Contents}
-use Rattle.patch_file.specs.Asking.{HasAsked}
-use Rattle.patch_file.proofs.AskingLaw.{asked_refused}
 use Rattle.puzzle_cli.specs.declared.cut_blocks.Shown.{Shown}
 use Rattle.puzzle_cli.specs.Shown.{all_patches, IsNamed}
-use Rattle.puzzle_cli.specs.Statuses.{IsOfLines}
+use Rattle.run_status.specs.Statuses.{IsOfLines}
 use Rattle.puzzle_cli.proofs.OpenLaw.{same_l, same_status}
 use Rattle.puzzle_cli.proofs.PlayLaw.{asked_export, export_no_bad, export_no_read, export_of_lines, low_near, part_shown, told_record}
 use Rattle.puzzle_cli.proofs.replaying.write_cut.Goals as goal

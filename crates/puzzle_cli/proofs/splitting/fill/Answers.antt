@@ -1,9 +1,7 @@
 -- One triangle is added after another.
-use Rattle.std.proofs.Common.{◌≡◌, ◌+◌, ◌≤◌, ◌<◌, take, length, get_or, sym, subst, arith}
+use Rattle.std.proofs.Common.{subst, arith}
 use Rattle.std.proofs.lemmas.List.{length-take, take_all}
 use Rattle.tpz_base.specs.Meshes.{Mesh}
-use Rattle.tri_stream.specs.Lists.{IsHeld}
-use Rattle.tri_stream.specs.Streams.{total}
 use Rattle.puzzle_cli.specs.Leaves.{Fills}
 use Rattle.puzzle_cli.proofs.Filling.{fills_more, fills_none, still_live}
 use Rattle.puzzle_cli.proofs.splitting.fill.Goals as goal

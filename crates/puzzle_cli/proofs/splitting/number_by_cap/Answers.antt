@@ -1,11 +1,14 @@
 -- The stream of all triangles is split, and the leaves are taken in the order of the cut.
-use Rattle.std.proofs.Common.{◌≡◌, ◌∙◌, arith, ap, sym, Err}
-use Rattle.std.proofs.lemmas.Result.{IfOk-weaker}
-use Rattle.puzzle_cli.specs.declared.status.Status.TheVariants.{TooManyRecords}
+use Rattle.std.proofs.Common.{◌≡◌, ◌∙◌, arith, ap, sym, Err, inr}
+use Rattle.std.proofs.lemmas.Result.{IfErr-weaker, IfOk-weaker}
+use Rattle.run_status.specs.declared.status.Status.TheVariants.{TooManyRecords}
 use Rattle.diamond_graph.specs.Adding.{ClosingState}
 use Rattle.tetra_name.proofs.NameFacts.{some_is}
 use Rattle.puzzle_cli.proofs.LeafOrder.{on_any}
 use Rattle.puzzle_cli.proofs.ReadLemmas.{told_later}
+use Rattle.tri_stream.proofs.Changes.{untold_before}
+use Rattle.puzzle_cli.proofs.BuildSteps.{err_is}
+use Rattle.run_status.proofs.StreamFaults.{split_told, split_was_damage, split_was_fault}
 use Rattle.puzzle_cli.proofs.SplitMesh.{counted_size, few_split, many_split, split_mesh, split_too_many}
 use Rattle.puzzle_cli.proofs.splitting.number_by_cap.Goals as goal
 
@@ -46,3 +49,32 @@ returns-clause-few g c =
     let source = c.in_ok-source.ensures.holds in
     let (later, kept) = told_later _ _ held source.telling keeps in
     few_split c.args.mesh.l c.args.cap _ c.args.mesh.tris.items source.level (c.in-Ok.ensures.few _ (source.list later kept)))
+
+pub returns-in-Err-clause-status : goal.returns-in-Err-clause-status
+returns-in-Err-clause-status g c = split_told _ _ c.status_of_split.ensures
+
+pub returns-in-Err-clause-work_fault : goal.returns-in-Err-clause-work_fault
+returns-in-Err-clause-work_fault g c = λ e.
+    let rose = c.in-Err.ensures.work_fault (ap Err (split_was_fault _ _ c.status_of_split.ensures (err_is _ _ e))) in
+    let first = c.stream_of.ensures.later in
+    omega arith
+
+pub returns-in-Err-clause-work_damage : goal.returns-in-Err-clause-work_damage
+returns-in-Err-clause-work_damage g c = λ offset e.
+    untold_before _ _ c.in_ok-source.ensures.holds.telling
+    (c.in-Err.ensures.work_damage offset (ap Err (split_was_damage _ _ offset c.status_of_split.ensures (err_is _ _ e))))
+
+pub returns-clause-status : goal.returns-clause-status
+returns-clause-status g c = IfErr-weaker c.number_leaves.result _ _ (λ s of_streams. inr of_streams) c.number_leaves.ensures.status
+
+pub returns-clause-work_fault : goal.returns-clause-work_fault
+returns-clause-work_fault g c = λ e.
+    let rose = c.number_leaves.ensures.work_fault e in
+    let first = c.stream_of.ensures.later in
+    let second = c.split.ensures.later in
+    omega arith
+
+pub returns-clause-work_damage : goal.returns-clause-work_damage
+returns-clause-work_damage g c = λ offset e.
+    untold_before _ _ c.in_ok-source.ensures.holds.telling
+    (untold_before _ _ c.split.ensures.telling (c.number_leaves.ensures.work_damage offset e))

@@ -1,6 +1,6 @@
 -- The build, and then the replay.
 use Rattle.std.proofs.Common.{arith, refl}
-use Rattle.puzzle_cli.specs.declared.status.Status.TheVariants as status
+use Rattle.run_status.specs.declared.status.Status.TheVariants as status
 use Rattle.puzzle_cli.proofs.Exports.{nothing}
 use Rattle.puzzle_cli.proofs.TourRuns.{build_other, replay_other, tour_run}
 use Rattle.puzzle_cli.proofs.touring.tour.Goals as goal

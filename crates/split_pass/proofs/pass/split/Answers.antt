@@ -1,19 +1,61 @@
--- The search has found what is split, and the triangles of each leaf are in its stream.
-use Rattle.std.proofs.Common.{◌≡◌, ◌≤◌, ◌<◌, ◌+◌, ◌∙◌, ℕ, List, Option, Err, None, Some, length, refl, sym, ap, subst, arith}
-use Rattle.std.specs.Prelude.{IsSome}
-use Rattle.std.specs.Option.{ForSome, unwrap_or}
-use Rattle.tri_stream.specs.Streams.{count_of, total, IsLive}
-use Rattle.tri_stream.proofs.OneStream.{total_of_one}
+-- The streams that were settled are those of the leaves.
+use Rattle.std.proofs.Common.{◌≡◌, ◌≤◌, ◌<◌, ◌∙◌, Err, ap, sym, subst, length, List, ℕ}
 use Rattle.std.proofs.lemmas.Result.{err_from_is_err_and}
 use Rattle.tpz_base.specs.declared.shape.Point.{Point}
-use Rattle.diamond_graph.specs.Adding.{most_centres}
+use Rattle.tpz_base.specs.Meshes.{Mesh}
 use Rattle.diamond_graph.specs.Graphs.{centres, GraphState}
-use Rattle.assign.specs.Splits.{split_set}
+use Rattle.diamond_graph.specs.Closed.{closure, IsConforming}
+use Rattle.diamond_graph.proofs.ClosureLaw.{closure_closed}
 use Rattle.assign.specs.Standing.{HoldsPatches, NamesStreams}
+use Rattle.assign.specs.Splits.{split_set}
+use Rattle.split_pass.specs.Crowds.{with_roots}
+use Rattle.diamond_graph.specs.Adding.{most_centres}
 use Rattle.split_pass.specs.declared.fault.SplitFault.TheVariants as SplitFault
+use Rattle.split_pass.specs.Spread.{AllBelow, HoldsThrough}
 use Rattle.split_pass.proofs.CrowdLaw.{found_split}
-use Rattle.split_pass.proofs.Placing.{err_same, holds_after, names_after, sealed}
+use Rattle.split_pass.proofs.Leaving.{holds_patches, names_leaves}
+use Rattle.split_pass.proofs.Sealing.{err_same, sealed}
 use Rattle.split_pass.proofs.pass.split.Goals as goal
+
+pub returns-clause-names : goal.returns-clause-names
+returns-clause-names g c =
+    let a = c.in_ok-settle_all.ensures in
+    let same : c.in_ok-graph.graph.l ≡ c.args.streams.now.l
+    = ap (λ (x : GraphState). x.l) c.in_ok-graph.ensures ∙ c.find_all.ensures.l ∙ c.l-l.ensures.l ∙ c.requires.l
+    in
+    subst (λ L. NamesStreams L (centres c.in_ok-graph.graph) c.settle_all.new.leaves c.settle_all.new.streams) same
+    (names_leaves c.in_ok-graph.graph.l (centres c.in_ok-graph.graph) c.settle_all.new.leaves c.settle_all.new.streams a.keyed a.below a.settled)
+
+pub returns-clause-graph : goal.returns-clause-graph
+returns-clause-graph g c = λ M told.
+    ap centres c.in_ok-graph.ensures
+    ∙ sealed c.find_all.new.closing.set
+    ∙ c.in_ok-find_all.ensures.found M told
+    ∙ found_split c.l-l.result c.args.cap M
+    ∙ ap (λ L. split_set L c.args.cap M) (c.l-l.ensures.l ∙ c.requires.l)
+
+pub returns-clause-patches : goal.returns-clause-patches
+unfolding split_set
+returns-clause-patches g c = λ M told.
+    let a = c.in_ok-settle_all.ensures in
+    let graph = c.in_ok-graph.graph in
+    let l = c.l-l.result in
+    let level : graph.l ≡ l = ap (λ (x : GraphState). x.l) c.in_ok-graph.ensures ∙ c.find_all.ensures.l in
+    let same : graph.l ≡ c.args.streams.now.l = level ∙ c.l-l.ensures.l ∙ c.requires.l in
+    let set : centres graph ≡ closure l (with_roots l c.args.cap M 6)
+    = ap centres c.in_ok-graph.ensures ∙ sealed c.find_all.new.closing.set ∙ c.in_ok-find_all.ensures.found M told
+    in
+    let split : centres graph ≡ split_set c.args.streams.now.l c.args.cap M
+    = set ∙ found_split l c.args.cap M ∙ ap (λ L. split_set L c.args.cap M) (c.l-l.ensures.l ∙ c.requires.l)
+    in
+    let closed : IsConforming graph.l (centres graph)
+    = subst (λ (F : List Point). IsConforming graph.l F) (sym set) (subst (λ (L : ℕ). IsConforming L (closure l (with_roots l c.args.cap M 6))) (sym level) (closure_closed l (with_roots l c.args.cap M 6)))
+    in
+    let before = subst (λ (L : ℕ). HoldsThrough L M c.find_all.new.leaves c.find_all.new.streams (g.B.Blob.held c.find_all.new.work)) (sym level) (c.in_ok-find_all.ensures.holds M told) in
+    subst (λ (F : List Point). HoldsPatches c.args.streams.now.l F M c.settle_all.new.leaves c.settle_all.new.streams (g.B.Blob.held c.settle_all.new.work)) split
+    (subst (λ (L : ℕ). HoldsPatches L (centres graph) M c.settle_all.new.leaves c.settle_all.new.streams (g.B.Blob.held c.settle_all.new.work)) same
+    (holds_patches graph.l (centres graph) (rw (level, c.l-l.ensures.l) c.l-l.ensures.bound.most) closed c.settle_all.new.leaves c.settle_all.new.streams a.below a.settled M (g.B.Blob.held c.settle_all.new.work)
+    (a.holds M before)))
 
 pub returns-in_err-find_all-clause-too_many : goal.returns-in_err-find_all-clause-too_many
 returns-in_err-find_all-clause-too_many g c = λ e. λ M was.
@@ -23,60 +65,15 @@ returns-in_err-find_all-clause-too_many g c = λ e. λ M was.
     let is = found_split c.l-l.result c.args.cap M ∙ ap (λ (n : ℕ). split_set n c.args.cap M) level in
     subst (λ (F : List Point). most_centres < length F) is much
 
-pub returns-clause-graph : goal.returns-clause-graph
-returns-clause-graph g c = λ M was.
-    let level = c.l-l.ensures.l ∙ c.requires.l in
-    let is = c.in_ok-find_all.ensures.found M was ∙ found_split c.l-l.result c.args.cap M ∙ ap (λ (n : ℕ). split_set n c.args.cap M) level in
-    ap centres c.in_ok-graph.ensures ∙ sealed c.find_all.new.closing.set ∙ is
-
-pub returns-clause-patches : goal.returns-clause-patches
-returns-clause-patches g c = λ M was.
-    let held = g.B.Blob.held in
-    let level = c.l-l.ensures.l ∙ c.requires.l in
-    let is = c.in_ok-find_all.ensures.found M was ∙ found_split c.l-l.result c.args.cap M ∙ ap (λ (n : ℕ). split_set n c.args.cap M) level in
-    let all = ap centres c.in_ok-graph.ensures ∙ sealed c.find_all.new.closing.set ∙ is in
-    let l = ap (λ (graph : GraphState). graph.l) c.in_ok-graph.ensures ∙ c.in_ok-find_all.ensures.l ∙ level in
-    let placed = c.in_ok-place_all.ensures.held M (c.in_ok-find_all.ensures.list ∙ was) in
-    let kept = holds_after c.in_ok-graph.graph.l (centres c.in_ok-graph.graph) c.args.whole M c.place_all.new.leaves c.place_all.new.streams c.give_back.new.self
-    (held c.place_all.new.work) (held c.give_back.new.blob) c.in_ok-place_all.ensures.tidy c.in_ok-give_back.ensures.others placed
-    in
-    subst (λ (n : ℕ). HoldsPatches n (split_set c.args.streams.now.l c.args.cap M) M c.place_all.new.leaves c.give_back.new.self (held c.give_back.new.blob)) l
-    (subst (λ (F : List Point). HoldsPatches c.in_ok-graph.graph.l F M c.place_all.new.leaves c.give_back.new.self (held c.give_back.new.blob)) all kept)
-
 pub returns-clause-few : goal.returns-clause-few
 returns-clause-few g c = λ M was.
     let level = c.l-l.ensures.l ∙ c.requires.l in
     let is = c.in_ok-find_all.ensures.found M was ∙ found_split c.l-l.result c.args.cap M ∙ ap (λ (n : ℕ). split_set n c.args.cap M) level in
     subst (λ (F : List Point). length F ≤ most_centres) is c.in_ok-find_all.ensures.room
 
-pub returns-clause-names : goal.returns-clause-names
-returns-clause-names g c =
-    let held = g.B.Blob.held in
-    let level = c.l-l.ensures.l ∙ c.requires.l in
-    let l = ap (λ (graph : GraphState). graph.l) c.in_ok-graph.ensures ∙ c.in_ok-find_all.ensures.l ∙ level in
-    subst (λ (n : ℕ). NamesStreams n (centres c.in_ok-graph.graph) c.place_all.new.leaves c.give_back.new.self) l
-    (names_after c.in_ok-graph.graph.l (centres c.in_ok-graph.graph) c.args.whole c.place_all.new.leaves c.place_all.new.streams c.give_back.new.self
-    (held c.place_all.new.work) (held c.give_back.new.blob) c.in_ok-place_all.ensures.tidy c.in_ok-give_back.ensures.others)
-
-given_back : (o : Option ℕ) (a b : ℕ) → IsSome o → ForSome o (λ n. a + n ≡ b) → a + unwrap_or o 0 ≡ b
-given_back None a b live h = absurd cc
-given_back (Some n) a b live h = h n refl
-
-pub find_all-requires-clause-few : goal.find_all-requires-clause-few
-find_all-requires-clause-few g c = let one = total_of_one c.args.streams.now c.args.whole c.requires.only in omega (arith, one, c.requires.few)
-
-pub place_all-requires-clause-few : goal.place_all-requires-clause-few
-place_all-requires-clause-few g c =
-    let one = total_of_one c.args.streams.now c.args.whole c.requires.only in
-    omega (arith, one, c.requires.few, c.in_ok-find_all.ensures.total)
-
-pub returns-clause-total : goal.returns-clause-total
-returns-clause-total g c =
-    let one = total_of_one c.args.streams.now c.args.whole c.requires.only in
-    let first = c.in_ok-find_all.ensures.counts c.args.whole in
-    let both = c.in_ok-place_all.ensures.count ∙ first in
-    let found = ap (λ o. unwrap_or o 0) first in
-    let placed = ap (λ o. unwrap_or o 0) both in
-    let live : IsLive c.place_all.new.streams c.args.whole = rw both c.requires.whole in
-    let back = given_back (count_of c.place_all.new.streams c.args.whole) (total c.give_back.new.self) (total c.place_all.new.streams) live c.in_ok-give_back.ensures.total in
-    omega (arith, one, found, placed, back, c.in_ok-place_all.ensures.total, c.in_ok-find_all.ensures.total)
+pub settle_all-requires-clause-below : goal.settle_all-requires-clause-below
+settle_all-requires-clause-below g c =
+    let same : c.in_ok-graph.graph.l ≡ c.l-l.result = ap (λ (x : GraphState). x.l) c.in_ok-graph.ensures ∙ c.find_all.ensures.l in
+    let set : centres c.in_ok-graph.graph ≡ c.find_all.new.closing.set = ap centres c.in_ok-graph.ensures ∙ sealed c.find_all.new.closing.set in
+    subst (λ (L : ℕ). AllBelow L (centres c.in_ok-graph.graph) c.find_all.new.leaves) (sym same)
+    (subst (λ (F : List Point). AllBelow c.l-l.result F c.find_all.new.leaves) (sym set) c.in_ok-find_all.ensures.below)

@@ -1,5 +1,4 @@
 -- What every workshop keeps of its points.
-use Rattle.std.proofs.Common.{arith}
 use Rattle.patch_mesh.proofs.CornerLaw.{vertex_known}
 use Rattle.patch_mesh.proofs.workshop.Workshop.vertex_count.Goals as goal
 

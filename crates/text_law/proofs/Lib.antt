@@ -1,0 +1,4 @@
+pub mod WrittenBodies
+pub mod WrittenTexts
+pub mod WrittenMeshes
+mod WorkedTexts
