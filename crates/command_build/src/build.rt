@@ -252,10 +252,20 @@ pub fn run_build<I: Source, W: Blob, S: Blob, O: Out>(
     requires some { 1 ≤ plan.budget }
     requires most { plan.budget ≤ 4194304 }
     ensures run { (script script' : SourceSeen) → BuildRun plan.digits plan.cap plan.budget
-        (record { input = record { left = I.left input.old; faults = I.faults input.old }; script = script; work = record { held = W.held work.old; reads = W.reads work.old; outcomes = W.outcomes work.old; faults = W.faults work.old }; store = record { held = S.held store.old; reads = S.reads store.old; outcomes = S.outcomes store.old; faults = S.faults store.old };
-            out = record { parts = O.parts out.old; notes = O.notes out.old; faults = O.faults out.old } })
-        (record { input = record { left = I.left input.new; faults = I.faults input.new }; script = script'; work = record { held = W.held work.new; reads = W.reads work.new; outcomes = W.outcomes work.new; faults = W.faults work.new }; store = record { held = S.held store.new; reads = S.reads store.new; outcomes = S.outcomes store.new; faults = S.faults store.new };
-            out = record { parts = O.parts out.new; notes = O.notes out.new; faults = O.faults out.new } })
+        (record {
+          input = record { left = I.left input.old; faults = I.faults input.old };
+          script = script;
+          work = record { held = W.held work.old; reads = W.reads work.old; outcomes = W.outcomes work.old; faults = W.faults work.old };
+          store = record { held = S.held store.old; reads = S.reads store.old; outcomes = S.outcomes store.old; faults = S.faults store.old };
+          out = record { parts = O.parts out.old; notes = O.notes out.old; faults = O.faults out.old };
+        })
+        (record {
+          input = record { left = I.left input.new; faults = I.faults input.new };
+          script = script';
+          work = record { held = W.held work.new; reads = W.reads work.new; outcomes = W.outcomes work.new; faults = W.faults work.new };
+          store = record { held = S.held store.new; reads = S.reads store.new; outcomes = S.outcomes store.new; faults = S.faults store.new };
+          out = record { parts = O.parts out.new; notes = O.notes out.new; faults = O.faults out.new };
+        })
         ((input.new ≡ input.old) × (work.new ≡ work.old) × (out.new ≡ out.old)) result }
     ensures asked { ¬ (result ≡ Status.Usage) }
     ensures no_script { ¬ (result ≡ Status.ScriptFault) }

@@ -259,10 +259,20 @@ pub fn run_replay<C: Source, S: Blob, O: Out>(
     requires some { 1 ≤ tries }
     requires few { tries ≤ 100 }
     ensures run { (input input' : SourceSeen) (work work' : BlobSeen) → ReplayRun tries
-        (record { input = input; script = record { left = C.left script.old; faults = C.faults script.old }; work = work; store = record { held = S.held store.old; reads = S.reads store.old; outcomes = S.outcomes store.old; faults = S.faults store.old };
-            out = record { parts = O.parts out.old; notes = O.notes out.old; faults = O.faults out.old } })
-        (record { input = input'; script = record { left = C.left script.new; faults = C.faults script.new }; work = work'; store = record { held = S.held store.new; reads = S.reads store.new; outcomes = S.outcomes store.new; faults = S.faults store.new };
-            out = record { parts = O.parts out.new; notes = O.notes out.new; faults = O.faults out.new } })
+        (record {
+          input = input;
+          script = record { left = C.left script.old; faults = C.faults script.old };
+          work = work;
+          store = record { held = S.held store.old; reads = S.reads store.old; outcomes = S.outcomes store.old; faults = S.faults store.old };
+          out = record { parts = O.parts out.old; notes = O.notes out.old; faults = O.faults out.old };
+        })
+        (record {
+          input = input';
+          script = record { left = C.left script.new; faults = C.faults script.new };
+          work = work';
+          store = record { held = S.held store.new; reads = S.reads store.new; outcomes = S.outcomes store.new; faults = S.faults store.new };
+          out = record { parts = O.parts out.new; notes = O.notes out.new; faults = O.faults out.new };
+        })
         ((script.new ≡ script.old) × (out.new ≡ out.old)) result }
     ensures status { IsOfReplay result }
     ensures script_fault { result ≡ Status.ScriptFault → Rose (C.faults script.old) (C.faults script.new) }

@@ -49,10 +49,20 @@ pub fn run<I: Source, C: Source, W: Blob, S: Blob, O: Out>(
 
     // Each command does what it says: of the job that the words ask for, the run shows what it must.
     ensures shown { (job : Job) → asked (map string_bytes words.now) ≡ Some job → shows job
-        (record { input = record { left = I.left input.old; faults = I.faults input.old }; script = record { left = C.left script.old; faults = C.faults script.old }; work = record { held = W.held work.old; reads = W.reads work.old; outcomes = W.outcomes work.old; faults = W.faults work.old }; store = record { held = S.held store.old; reads = S.reads store.old; outcomes = S.outcomes store.old; faults = S.faults store.old };
-            out = record { parts = O.parts out.old; notes = O.notes out.old; faults = O.faults out.old } })
-        (record { input = record { left = I.left input.new; faults = I.faults input.new }; script = record { left = C.left script.new; faults = C.faults script.new }; work = record { held = W.held work.new; reads = W.reads work.new; outcomes = W.outcomes work.new; faults = W.faults work.new }; store = record { held = S.held store.new; reads = S.reads store.new; outcomes = S.outcomes store.new; faults = S.faults store.new };
-            out = record { parts = O.parts out.new; notes = O.notes out.new; faults = O.faults out.new } })
+        (record {
+          input = record { left = I.left input.old; faults = I.faults input.old };
+          script = record { left = C.left script.old; faults = C.faults script.old };
+          work = record { held = W.held work.old; reads = W.reads work.old; outcomes = W.outcomes work.old; faults = W.faults work.old };
+          store = record { held = S.held store.old; reads = S.reads store.old; outcomes = S.outcomes store.old; faults = S.faults store.old };
+          out = record { parts = O.parts out.old; notes = O.notes out.old; faults = O.faults out.old };
+        })
+        (record {
+          input = record { left = I.left input.new; faults = I.faults input.new };
+          script = record { left = C.left script.new; faults = C.faults script.new };
+          work = record { held = W.held work.new; reads = W.reads work.new; outcomes = W.outcomes work.new; faults = W.faults work.new };
+          store = record { held = S.held store.new; reads = S.reads store.new; outcomes = S.outcomes store.new; faults = S.faults store.new };
+          out = record { parts = O.parts out.new; notes = O.notes out.new; faults = O.faults out.new };
+        })
         (record { input = input.new ≡ input.old; script = script.new ≡ script.old; work = work.new ≡ work.old; store = store.new ≡ store.old; out = out.new ≡ out.old }) result }
 
     // A device is blamed only where it failed in this call, and a damaged work file is told only of one that tells nothing.
