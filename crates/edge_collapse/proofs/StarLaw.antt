@@ -15,7 +15,7 @@ use Rattle.tpz_base.proofs.SumLemmas.{sum_by-map}
 use Rattle.edge_collapse.specs.Sweeps.{span_of, star_face, face_sweep}
 use Rattle.edge_collapse.specs.declared.star.StarFace.{StarFace}
 use Rattle.edge_collapse.specs.Feeds.{follower}
-use Rattle.edge_collapse.specs.Pairs.{stays_vertex, corners_stay}
+use Rattle.edge_collapse.specs.Pairs.{stays_vertex, corners_stay, next_stays}
 use Rattle.edge_collapse.proofs.LeastLaw.{apart_ab, apart_bc, apart_ca}
 
 all_passed : {X : Type 0} (p : X → Bool) (xs : List X) → list_all p (filter p xs) ≡ true
@@ -168,3 +168,8 @@ others_stay M u w t at =
     last_corner true y z e f h = absurd (true≢false e)
     last_corner false true z e f h = absurd (true≢false f)
     last_corner false false z e f h = h
+
+-- the next corner tells
+pub next_tells : (M : Mesh) (u w : Point) (t : Tri) → next_stays M u w t ≡ stays_vertex M u w (opposite_edge u t).0
+unfolding next_stays
+next_tells M u w t = refl

@@ -1,5 +1,5 @@
 // The key of least rank among the pairs that begin at one vertex.
-ghost use Rattle.std.specs.Prelude.{◌≡◌, ◌≤◌, ◌<◌, Bool, All, List, length, map, filter, true, false, vec_capacity};
+ghost use Rattle.std.specs.Prelude.{◌≡◌, ◌≤◌, ◌<◌, ◌^◌, ◌-◌, Bool, All, List, length, map, filter, true, false, vec_capacity};
 ghost use Rattle.std.specs.Option.{IfSome};
 ghost use Rattle.tpz_base.specs.declared.shape.Point.{Point};
 ghost use Rattle.tpz_base.specs.Points.{point_eq};
@@ -14,7 +14,7 @@ ghost use Rattle.edge_collapse.specs.Sweeps.{star_face, IsStarFace};
 
 use crate::keys::{Key, precedes};
 use crate::legality::is_legal_inner;
-use crate::star::{StarFace, key_by_star, list_star};
+use crate::star::{StarFace, key_within, list_star};
 use patch_mesh::{Walk, Workshop};
 use tpz_base::Point;
 
@@ -25,6 +25,16 @@ fn comes_first(k: &Key, best: &Option<Key>) -> bool
     match best {
         None => true,
         Some(b) => precedes(k, b),
+    }
+}
+
+/// The greatest sweep with which a key may still come before the best one so far.
+fn sweep_limit(best: &Option<Key>) -> u128
+    ensures limit { (k : CollapseKey) → result < k.sweep → is_covered best.now k ≡ false → result ≡ 2 ^ 128 - 1 }
+{
+    match best {
+        None => u128::MAX,
+        Some(b) => b.sweep,
     }
 }
 
@@ -88,8 +98,10 @@ fn with_face(
     ensures from { IfSome result (IsFrom p) }
     ensures due { legal_only ≡ true → IfSome result (λ b. is_due_of list.now.mesh b ≡ true) }
 {
-    let k = key_by_star(faces, p, f.next);
-    better(list, start, k, best, legal_only)
+    match key_within(faces, p, f.next, sweep_limit(&best)) {
+        None => best,
+        Some(k) => better(list, start, k, best, legal_only),
+    }
 }
 
 /// The least key of the pairs that begin at `p`, an inner vertex with these triangles; of the legal ones alone, where that is asked.

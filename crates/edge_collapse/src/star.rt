@@ -1,8 +1,10 @@
 // The triangles at a vertex, with the normals that the keys of all its pairs share.
-ghost use Rattle.std.specs.Prelude.{◌≡◌, ◌≤◌, ◌<◌, ◌^◌, ◌+◌, ◌++◌, ◌∷◌, [], All, length, map, filter, sum_by, vec_len, vec_capacity, false};
+ghost use Rattle.std.specs.Prelude.{◌≡◌, ◌≤◌, ◌<◌, ◌^◌, ◌+◌, ◌++◌, ◌∷◌, [], All, None, length, map, filter, sum_by, vec_len, vec_capacity, false};
 ghost use Rattle.tpz_base.specs.Points.{point_eq, vector as vector_from, cross as cross_of};
 ghost use Rattle.tpz_base.specs.Meshes.{Mesh, has_corner};
+ghost use Rattle.tpz_base.specs.Collapses.{sweep_of};
 ghost use Rattle.tpz_base.specs.Reach.{IsNear, IsShort, vector_at};
+ghost use Rattle.std.specs.Option.{IfSome};
 ghost use Rattle.patch_mesh.specs.Slots.{point_at};
 ghost use Rattle.edge_collapse.specs.Feeds.{made_key};
 ghost use Rattle.edge_collapse.specs.Sweeps.{span_of, star_face as star_face_of, face_sweep, IsStarFace};
@@ -62,33 +64,45 @@ pub fn list_star(list: &Workshop, faces: &mut Vec<StarFace>, v: u32, p: Point)
     }
 }
 
-/// Six times the volume that the triangles sweep as their vertex moves by `d`.
-fn sweep_along(faces: &[StarFace], p: Point, d: Span) -> u128
+/// Six times the volume that the triangles sweep as their vertex moves by `d`: None exactly where it is more than `most`.
+fn sweep_within(faces: &[StarFace], p: Point, d: Span, most: u128) -> Option<u128>
     requires short { IsShort (2 ^ 30) (vector_at d) }
     requires good { All (IsStarFace p) faces.now }
     requires few { length faces.now ≤ 4194304 }
-    ensures { result ≡ sum_by (face_sweep (vector_at d)) faces.now }
+    ensures value { IfSome result (λ sweep. sweep ≡ sum_by (face_sweep (vector_at d)) faces.now) }
+    ensures within { IfSome result (λ sweep. sweep ≤ most) }
+    ensures beyond { result ≡ None → most < sum_by (face_sweep (vector_at d)) faces.now }
+    ensures small { result ≡ None → most < 2 ^ 120 }
 {
     let _ = p;
     let mut total = 0;
     for f in faces {
         total += volume(d, f.normal).unsigned_abs();
+        if total > most {
+            return None;
+        }
     }
-    total
+    Some(total)
 }
 
-/// The key of putting `p` in the place of `q`, by the triangles at `p`.
-pub fn key_by_star(faces: &[StarFace], p: Point, q: Point) -> Key
+/// The key of putting `p` in the place of `q`, by the triangles at `p`: None exactly where its sweep is more than `most`.
+pub fn key_within(faces: &[StarFace], p: Point, q: Point, most: u128) -> Option<Key>
     requires from { IsNear p }
     requires to { IsNear q }
     requires good { All (IsStarFace p) faces.now }
     requires few { length faces.now ≤ 4194304 }
-    ensures { (M : Mesh) → faces.now ≡ map (star_face_of p) (filter (has_corner p) M) → result ≡ made_key M (p, q) }
+    ensures value { IfSome result (λ k. (M : Mesh) → faces.now ≡ map (star_face_of p) (filter (has_corner p) M) → k ≡ made_key M (p, q)) }
+    ensures within { IfSome result (λ k. k.sweep ≤ most) }
+    ensures beyond { result ≡ None → (M : Mesh) → faces.now ≡ map (star_face_of p) (filter (has_corner p) M) → most < sweep_of M p q }
+    ensures small { result ≡ None → most < 2 ^ 120 }
 {
-    Key {
-        sweep: sweep_along(faces, p, difference_of(p, q)),
+    let Some(sweep) = sweep_within(faces, p, difference_of(p, q), most) else {
+        return None;
+    };
+    Some(Key {
+        sweep,
         length: squared_length(p, q),
         from: p,
         to: q,
-    }
+    })
 }
