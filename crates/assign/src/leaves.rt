@@ -76,6 +76,11 @@ impl Leaves {
         }
     }
 
+    /// The allocator that the table was made with.
+    pub fn alloc(&self) -> Global {
+        self.alloc
+    }
+
     /// The stream of `name` becomes `id`, also where it had another. An error changes nothing.
     pub fn set(&mut self, name: Tet, id: StreamId) -> Result<(), AllocError>
         ensures ok { OnOk result (self.new ≡ map.insert self.old name id) }

@@ -1,5 +1,5 @@
 -- The closure of diamonds that are added one after another, and the diamonds that a division adds.
-use Rattle.std.proofs.Common.{◌≡◌, ◌≢◌, ℕ, zero, suc, ◌+◌, ◌-◌, ◌*◌, ◌∷◌, ◌<◌, ◌≤◌, [], List, Option, Some, None, Err, Result, true, false, refl, sym, ◌∙◌, ap, subst, inl, inr, ◌⊎◌, arith, length}
+use Rattle.std.proofs.Common.{◌≡◌, ℕ, zero, suc, ◌+◌, ◌-◌, ◌*◌, ◌∷◌, ◌<◌, ◌≤◌, [], List, Option, Some, None, Err, Result, true, false, refl, sym, ◌∙◌, ap, subst, inl, inr, ◌⊎◌, arith, length}
 use Rattle.std.specs.Prelude.{nat_lt, slice_get}
 use Rattle.std.specs.Option.{ForSome, option_map}
 use Rattle.std.proofs.lemmas.Bool.{ltb-true, lt-ltb, cases_Bool, or_cases, or_left, or_right}
@@ -17,8 +17,7 @@ use Rattle.tetra_name.specs.declared.shape.Tet.{Tet}
 use Rattle.tetra_name.specs.Names.{child_of, point_of, root_at, tetrahedron_of}
 use Rattle.diamond_graph.specs.Adding.{most_centres}
 use Rattle.tri_stream.specs.declared.names.StreamId.{StreamId}
-use Rattle.tri_stream.specs.Streams.{StreamsState, count_of, list_of, told_list, IsLive, Stands}
-use Rattle.tri_stream.proofs.Changes.{live_differs, same_name, same_size}
+use Rattle.tri_stream.specs.Streams.{StreamsState, list_of, told_list, Stands}
 use Rattle.diamond_graph.specs.Closed.{closure, IsPartOf}
 use Rattle.diamond_graph.proofs.ClosureLaw.{closure_ascends, closure_closed, closure_holds, closure_least}
 use Rattle.diamond_graph.proofs.SetLaw.{both_ways, closure-once, fewer, record_order_same}

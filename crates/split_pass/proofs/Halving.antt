@@ -1,6 +1,6 @@
 -- A named stream is divided among the names of the two children.
-use Rattle.std.proofs.Common.{◌≡◌, ◌≢◌, ◌<◌, ◌≤◌, ◌+◌, ◌*◌, ℕ, zero, suc, ◌++◌, ◌∷◌, [], List, Option, Some, None, Bool, true, false, cond, refl, sym, ◌∙◌, ap, subst, inl, inr, ◌⊎◌, true≢false, arith}
-use Rattle.std.specs.Prelude.{Contains, filter, is_some, IsSome, IsTrue}
+use Rattle.std.proofs.Common.{◌≡◌, ◌≢◌, ◌<◌, ◌≤◌, ◌+◌, ◌*◌, ℕ, suc, ◌++◌, ◌∷◌, [], List, Option, Some, None, Bool, true, false, cond, refl, sym, ◌∙◌, ap, subst, inl, inr, ◌⊎◌, true≢false, arith}
+use Rattle.std.specs.Prelude.{Contains, filter, is_some, IsSome}
 use Rattle.std.specs.Option.{ForSome, option_map, unwrap_or}
 use Rattle.std.specs.Ordering.{eq_by_cmp}
 use Rattle.std.specs.FinMap.{get, remove, get-remove}
@@ -11,12 +11,12 @@ use Rattle.tpz_base.specs.declared.shape.Tri.{Tri}
 use Rattle.tpz_base.specs.Meshes.{Mesh}
 use Rattle.tpz_base.specs.Cuts.{has_diamond}
 use Rattle.tpz_base.specs.Diamonds.{level_of}
-use Rattle.tpz_base.specs.Tetrahedra.{Tetrahedron, at_level, child_0, child_1, children, descendants, diamond}
+use Rattle.tpz_base.specs.Tetrahedra.{Tetrahedron, at_level, child_0, child_1, children, descendants}
 use Rattle.tpz_base.proofs.CutLaw.{Member}
 use Rattle.tpz_base.proofs.Diamonds.{level_at}
 use Rattle.tpz_base.proofs.Members.{NoTwice, level_differs, no_twice-differ}
 use Rattle.tetra_name.specs.declared.shape.Tet.{Tet}
-use Rattle.tetra_name.specs.Names.{child_of, point_of, tetrahedron_of, IsName}
+use Rattle.tetra_name.specs.Names.{point_of, tetrahedron_of, IsName}
 use Rattle.tetra_name.proofs.EveryName.{names_each}
 use Rattle.tetra_name.proofs.NameFacts.{contains-member, member-contains, name_level, some_of}
 use Rattle.assign.proofs.PathLaw.{two_children}
@@ -33,7 +33,7 @@ use Rattle.split_pass.specs.Spread.{AllBelow, HoldsThrough, IsBelow, IsChildName
 use Rattle.split_pass.proofs.Crowding.{left_child, named_diamond, right_child}
 use Rattle.split_pass.proofs.CrowdLaw.{first_goes, goes_on, second_goes, Goes}
 
-one_of : {X : Type 0} (o : Option X) (x y : X) → o ≡ Some x → o ≡ Some y → x ≡ y
+pub one_of : {X : Type 0} (o : Option X) (x y : X) → o ≡ Some x → o ≡ Some y → x ≡ y
 one_of None x y e f = absurd cc
 one_of (Some z) x y e f = cc
 
@@ -42,7 +42,7 @@ no_some None x e f = cc
 no_some (Some z) x e f = cc
 
 -- no element passes
-no_more : (M : Mesh) (p : Tri → Bool) → ((t : Tri) → Contains M t → p t ≡ false) → filter p M ≡ []
+pub no_more : (M : Mesh) (p : Tri → Bool) → ((t : Tri) → Contains M t → p t ≡ false) → filter p M ≡ []
 no_more [] p none = refl
 no_more (t ∷ M) p none = rw (none t (member-contains (t ∷ M) t (inl refl))) (no_more M p (λ x among. none x (member-contains (t ∷ M) x (inr (contains-member M x among)))))
 

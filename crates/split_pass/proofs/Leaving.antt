@@ -1,8 +1,8 @@
 -- The streams at which a search ended are those of the leaves: what goes through a tetrahedron that isn't split, and whose parent is, has it as its leaf.
 use Rattle.std.proofs.Common.{◌≡◌, ◌+◌, ◌-◌, ◌*◌, ◌∷◌, ◌≤◌, ◌<◌, Bool, true, false, Some, None, Option, ℕ, zero, suc, List, [], length, refl, sym, ◌∙◌, ap, subst, inl, inr, true≢false, arith}
-use Rattle.std.specs.Prelude.{not, filter, find, Contains}
+use Rattle.std.specs.Prelude.{not, filter, find}
 use Rattle.std.specs.FinMap.{get}
-use Rattle.std.specs.Option.{option_map, option_map_or, unwrap_or}
+use Rattle.std.specs.Option.{option_map_or}
 use Rattle.std.proofs.lemmas.Bool.{cases_Bool, or_left, or_right}
 use Rattle.std.proofs.lemmas.List.Elements.{filter_agree}
 use Rattle.tpz_base.specs.declared.shape.Point.{Point}
@@ -20,7 +20,7 @@ use Rattle.tetra_name.specs.Names.{tetrahedron_of, IsName}
 use Rattle.tetra_name.proofs.EveryName.{names_each}
 use Rattle.tetra_name.proofs.NameFacts.{contains-member, member-contains, some_is}
 use Rattle.tri_stream.specs.declared.names.StreamId.{StreamId}
-use Rattle.tri_stream.specs.Streams.{StreamsState, count_of, list_of, size_of, told_list}
+use Rattle.tri_stream.specs.Streams.{StreamsState, list_of, size_of, told_list}
 use Rattle.tri_stream.proofs.OneStream.{list_size}
 use Rattle.diamond_graph.specs.Closed.{IsConforming}
 use Rattle.diamond_graph.proofs.CutBuilding.{HasParents-from_IsConforming}

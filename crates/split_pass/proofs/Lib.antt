@@ -9,3 +9,7 @@ mod Searching
 mod Settling
 mod RootNames
 mod Leaving
+mod Waiting
+mod OneByOne
+mod Parting
+mod Sorting

@@ -1,10 +1,10 @@
 -- Streams that are made, filled and ended, one step after another.
-use Rattle.std.proofs.Common.{◌≡◌, ◌≢◌, ℕ, ◌++◌, [], List, Option, Some, None, refl, sym, ◌∙◌, ap, inl, inr}
+use Rattle.std.proofs.Common.{◌≡◌, ◌≢◌, ℕ, ◌++◌, [], List, Option, Some, None, refl, ◌∙◌, ap, inl, inr}
 use Rattle.std.specs.Option.{ForSome, option_map}
 use Rattle.tpz_base.specs.Meshes.{Mesh}
 use Rattle.tri_stream.specs.declared.names.StreamId.{StreamId}
 use Rattle.tri_stream.specs.Streams.{StreamsState, count_of, list_of, told_list, IsLive, LeavesOthers, Stands}
-use Rattle.tri_stream.proofs.Changes.{differ, live_differs, nothing_told, one_told, same_name, Makes}
+use Rattle.tri_stream.proofs.Changes.{live_differs, nothing_told, same_name}
 
 -- the list of a stream that was made empty and filled
 pub filled : (s1 : StreamsState) (x : StreamId) (h : Option (List ℕ)) (M more : Mesh) (o : Option Mesh) → ((bytes : List ℕ) → h ≡ Some bytes → list_of s1 bytes x ≡ [])

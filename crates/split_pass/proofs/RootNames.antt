@@ -1,5 +1,5 @@
 -- The six roots are named.
-use Rattle.std.proofs.Common.{◌≡◌, ◌≢◌, ◌<◌, ◌≤◌, ◌+◌, ℕ, zero, suc, ◌∷◌, [], List, Option, Some, None, Bool, true, refl, sym, ◌∙◌, ap, subst, inl, inr, ◌⊎◌, arith, length}
+use Rattle.std.proofs.Common.{◌≡◌, ◌≢◌, ◌<◌, ◌≤◌, ◌+◌, ℕ, zero, suc, ◌∷◌, [], List, Option, Some, None, refl, sym, ◌∙◌, ap, subst, inl, inr, ◌⊎◌, arith, length}
 use Rattle.std.specs.Prelude.{Contains, slice_get, IsSome}
 use Rattle.std.specs.Option.{ForSome, unwrap_or}
 use Rattle.std.specs.FinMap.{get, empty, get-empty, insert}

@@ -1,5 +1,5 @@
 -- A search over named streams: what it adds by the triangles that go through, and what it keeps.
-use Rattle.std.proofs.Common.{◌≡◌, ◌≢◌, ◌<◌, ◌≤◌, ◌+◌, ◌*◌, ℕ, suc, ◌∷◌, List, Option, Some, None, Bool, true, false, refl, sym, ◌∙◌, ap, subst, inl, inr, ◌⊎◌, arith, length}
+use Rattle.std.proofs.Common.{◌≡◌, ◌≢◌, ◌≤◌, ◌*◌, ℕ, suc, ◌∷◌, List, Option, Some, true, sym, ◌∙◌, ap, subst, inl, inr, arith, length}
 use Rattle.std.specs.Option.{ForSome}
 use Rattle.std.specs.FinMap.{get}
 use Rattle.std.proofs.lemmas.Bool.{or_left, or_right}
@@ -14,7 +14,7 @@ use Rattle.tpz_base.proofs.PointLemmas.{point_eq_refl}
 use Rattle.tetra_name.specs.declared.shape.Tet.{Tet}
 use Rattle.tetra_name.specs.Names.{point_of, tetrahedron_of}
 use Rattle.tri_stream.specs.declared.names.StreamId.{StreamId}
-use Rattle.tri_stream.specs.Streams.{StreamsState, list_of, told_list, Stands}
+use Rattle.tri_stream.specs.Streams.{StreamsState, list_of, Stands}
 use Rattle.assign.specs.Names.{LeafTable}
 use Rattle.diamond_graph.specs.Closed.{closure, IsPartOf}
 use Rattle.diamond_graph.proofs.ClosureLaw.{closure_holds}
@@ -35,13 +35,14 @@ added_part L d F G is = λ x h. subst (λ (ds : List Point). has_diamond ds x �
 pub added_here : (L : ℕ) (d : Point) (F G : List Point) → G ≡ closure L (d ∷ F) → has_diamond G d ≡ true
 added_here L d F G is = subst (λ (ds : List Point). has_diamond ds d ≡ true) (sym is) (closure_holds L (d ∷ F) d (or_left (point_eq d d) (has_diamond F d) (point_eq_refl d)))
 
+-- a tetrahedron is below what more is split
+pub further_below : (L : ℕ) (F G : List Point) (T : Tetrahedron) → IsPartOf F G → IsBelow L F T → IsBelow L G T
+further_below L F G T part b = elim b [ inl root ↦ inl root | inr p ↦ inr (p.0, p.1, p.2, part (diamond p.0) p.3) ]
+
 pub more_below : (L : ℕ) (F G : List Point) (m : LeafTable) → IsPartOf F G → AllBelow L F m → AllBelow L G m
 more_below L F G m part all = λ name id here.
     let t = all name id here in
-    (t.0, t.1, further t.0 t.2)
-  where
-    further : (T : Tetrahedron) → IsBelow L F T → IsBelow L G T
-    further T b = elim b [ inl root ↦ inl root | inr p ↦ inr (p.0, p.1, p.2, part (diamond p.0) p.3) ]
+    (t.0, t.1, further_below L F G t.0 part t.2)
 
 -- the first child's triangles as a part of its parent's, and the second's
 pub by_first : (L n m cap : ℕ) (T : Tetrahedron) (M : Mesh) (V W : List Point) → suc n ≤ 3 * L → Member (at_level L n) T

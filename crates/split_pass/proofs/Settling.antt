@@ -1,7 +1,7 @@
 -- A named stream without triangles ends with its name.
 use Rattle.std.proofs.Common.{◌≡◌, ◌≢◌, ◌≤◌, ℕ, zero, suc, [], ◌∷◌, ◌<◌, ◌+◌, List, Option, Some, None, false, length, slice_index_or, refl, sym, ◌∙◌, ap, inl, inr, ◌⊎◌, arith}
 use Rattle.std.specs.Prelude.{Contains}
-use Rattle.std.specs.Option.{ForSome, option_map, unwrap_or}
+use Rattle.std.specs.Option.{ForSome, unwrap_or}
 use Rattle.std.specs.FinMap.{get, remove}
 use Rattle.std.proofs.lemmas.Bool.{cases_eq}
 use Rattle.tpz_base.specs.declared.shape.Tri.{Tri}
@@ -21,7 +21,7 @@ use Rattle.tri_stream.proofs.Changes.{live_as_before, live_differs}
 use Rattle.assign.specs.Names.{LeafTable}
 use Rattle.assign.proofs.NameTables.{same_tet}
 use Rattle.split_pass.specs.Crowds.{goes_through, through}
-use Rattle.split_pass.specs.Spread.{AllBelow, HoldsThrough, IsKept, IsKeyed, IsNamed, IsSettled, IsSettling}
+use Rattle.split_pass.specs.Spread.{AllBelow, HoldsThrough, IsKeyed, IsNamed, IsSettled, IsSettling}
 use Rattle.split_pass.proofs.Halving.{removed_here, removed_rest}
 
 both_some : {X : Type 0} (o : Option X) (x y : X) → o ≡ Some x → o ≡ Some y → x ≡ y

@@ -1,16 +1,9 @@
 -- What moving triangles between streams changes.
-use Rattle.std.specs.Prelude.{◌≡◌, ◌≢◌, ◌⊎◌, ℕ, ◌+◌, ◌∷◌, ◌++◌, List, [], Option, is_some, slice_get, if◌then◌else◌}
-use Rattle.std.specs.FinMap.{get}
-use Rattle.tetra_name.specs.declared.shape.Tet.{Tet}
-use Rattle.assign.specs.Names.{LeafTable}
-use Rattle.assign.specs.Standing.{NamesStreams}
-use Rattle.tpz_base.specs.declared.shape.Point.{Point}
-use Rattle.tpz_base.specs.declared.shape.Tri.{Tri}
-use Rattle.tri_stream.specs.declared.names.Cursor.{Cursor}
+use Rattle.std.specs.Prelude.{◌≡◌, ◌≢◌, ℕ, List, [], Option, slice_get}
 use Rattle.std.specs.Option.{ForSome}
 use Rattle.std.specs.declared.option.Option.TheVariants.{None, Some}
 use Rattle.tri_stream.specs.declared.names.StreamId.{StreamId}
-use Rattle.tri_stream.specs.Streams.{StreamsState, count_of, list_of, size_of, told_list, total, Follows, IsLive, Stands}
+use Rattle.tri_stream.specs.Streams.{StreamsState, count_of, list_of, told_list, total, IsLive, Stands}
 
 -- Every stream but these two is as before.
 pub record LeavesAllBut (a b : StreamId) (old new : StreamsState) (before now : Option (List ℕ)) : Type 0 where

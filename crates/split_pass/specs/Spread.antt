@@ -1,20 +1,18 @@
 -- Streams that are named by tetrahedra, and the triangles that they hold: those that go through the tetrahedron.
 use Rattle.std.specs.Prelude.{◌≡◌, ◌≢◌, ◌⊎◌, ℕ, ◌≤◌, List, Option, Contains, IsTrue, false, true, suc}
 use Rattle.std.specs.FinMap.{get}
-use Rattle.std.specs.declared.option.Option.TheVariants.{None, Some}
+use Rattle.std.specs.declared.option.Option.TheVariants.{Some}
 use Rattle.tpz_base.specs.declared.shape.Point.{Point}
 use Rattle.tpz_base.specs.declared.shape.Tri.{Tri}
-use Rattle.tpz_base.specs.Lists.{has}
 use Rattle.tpz_base.specs.Diamonds.{level_of}
 use Rattle.tpz_base.specs.Meshes.{Mesh}
 use Rattle.tpz_base.specs.Cuts.{has_diamond}
-use Rattle.tpz_base.specs.Tetrahedra.{Tetrahedron, children, descendants, diamond, roots, tetrahedron_eq}
+use Rattle.tpz_base.specs.Tetrahedra.{Tetrahedron, children, descendants, diamond, roots}
 use Rattle.tetra_name.specs.declared.shape.Tet.{Tet}
 use Rattle.tetra_name.specs.Names.{child_of, point_of, tetrahedron_of, IsName}
 use Rattle.tri_stream.specs.declared.names.StreamId.{StreamId}
 use Rattle.tri_stream.specs.Streams.{StreamsState, size_of, told_list, IsLive}
 use Rattle.assign.specs.Names.{LeafTable}
-use Rattle.assign.specs.Paths.{path}
 use Rattle.split_pass.specs.Crowds.{goes_through, through}
 
 -- the name of this child

@@ -6,7 +6,7 @@ ghost use Rattle.split_pass.specs.declared.fault.SplitFault.TheVariants.{Memory}
 ghost use Rattle.split_pass.specs.Faults.{fault_of, work_fault_of};
 
 use diamond_graph::ClosingFault;
-use std::alloc::AllocError;
+use std::alloc::{AllocError, AllocFailed};
 use tri_stream::StreamFault;
 
 /// Why a stream isn't split.
@@ -26,6 +26,14 @@ impl From<AllocError> for SplitFault {
     ghost from_gives = { λ _ e. e ≡ Memory };
 
     fn from(_fault: AllocError) -> SplitFault {
+        SplitFault::Memory
+    }
+}
+
+impl<T: Drop> From<AllocFailed<T>> for SplitFault {
+    ghost from_gives = { λ _ e. e ≡ Memory };
+
+    fn from(_fault: AllocFailed<T>) -> SplitFault {
         SplitFault::Memory
     }
 }

@@ -20,14 +20,18 @@ ghost use Rattle.split_pass.specs.Spread.{AllBelow, HoldsThrough, IsKeyed};
 use crate::divide::halve;
 use crate::fault::SplitFault;
 use crate::root::name_roots;
+use crate::sort::find_within;
 use assign::Leaves;
 use diamond_graph::Closing;
 use tetra_name::{Tet, child, level, root};
 use tpz_io::Blob;
 use tri_stream::{StreamId, Streams};
 
+/// A stream of at most so many triangles is divided in memory: they and the room for as many take 19 MB.
+const ROOM: u64 = 262_144;
+
 /// Adds the diamonds of the crowded tetrahedra from this one down, and divides their streams. Those at which it ends stay named. It calls itself once
-/// a level.
+/// a level, until the triangles fit into memory.
 fn find<B: Blob>(
     streams: &mut Streams,
     work: &mut B,
@@ -70,6 +74,9 @@ fn find<B: Blob>(
     };
     if streams.count(id) <= u64::from(cap) || level(name.centre, l) == 3 * l {
         return Ok(());
+    }
+    if streams.count(id) <= ROOM {
+        return find_within(streams, work, closing, leaves, name, l, cap, id);
     }
     closing.add_closed(name.centre)?;
     let first = child(name, 0, l);

@@ -1,8 +1,7 @@
 -- The two children get streams, and the divided one ends.
-use Rattle.std.proofs.Common.{◌≡◌, ◌∙◌, arith, sym, ap}
-use Rattle.tri_stream.specs.Streams.{size_of, total, IsLive}
+use Rattle.std.proofs.Common.{arith}
 use Rattle.tri_stream.proofs.Changes.{live_as_before}
-use Rattle.split_pass.proofs.Halving.{a_b, below_3, children_apart, child_differs, first_2, first_3, gone, holds_3, id_a, id_b, keyed_2, keyed_3, name_2, named_keyed, placed, rest, second_3, size_id, sizes, total_2, total_4}
+use Rattle.split_pass.proofs.Halving.{a_b, below_3, children_apart, child_differs, first_2, first_3, gone, holds_3, id_a, id_b, keyed_2, keyed_3, name_2, named_keyed, placed, rest, second_3, size_id, sizes, total_4}
 use Rattle.split_pass.proofs.divide.halve.Goals as goal
 
 pub stream_of-requires-2 : goal.stream_of-requires-2

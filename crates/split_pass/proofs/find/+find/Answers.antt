@@ -1,14 +1,14 @@
 -- The tetrahedron's diamond is added, and then those below its two children.
-use Rattle.std.proofs.Common.{rules, ◌≡◌, ◌≤◌, ◌<◌, ◌+◌, ◌-◌, ◌*◌, ◌∷◌, ◌∙◌, ℕ, suc, Err, Some, refl, arith, length, sym, ap, subst, inl, inr, ◌⊎◌}
+use Rattle.std.proofs.Common.{rules, ◌≡◌, ◌≤◌, ◌<◌, ◌-◌, ◌*◌, ◌∷◌, ◌∙◌, suc, Err, Some, arith, length, sym, ap, subst, inl, inr, ◌⊎◌}
 use Rattle.std.proofs.lemmas.Result.{err_from_is_err_and, on_ok_weaker}
 use Rattle.std.specs.FinMap.{get}
 use Rattle.tpz_base.specs.Diamonds.{level_of}
 use Rattle.tpz_base.specs.Tetrahedra.{at_level, child_0, child_1, diamond}
 use Rattle.tpz_base.proofs.CutLaw.{Member}
-use Rattle.tetra_name.specs.Names.{point_of, tetrahedron_of}
+use Rattle.tetra_name.specs.Names.{point_of}
 use Rattle.diamond_graph.specs.Adding.{most_centres}
 use Rattle.diamond_graph.specs.Closed.{closure}
-use Rattle.split_pass.specs.Crowds.{first_part, second_part, through, with_crowded}
+use Rattle.split_pass.specs.Crowds.{first_part, through, with_crowded}
 use Rattle.tri_stream.specs.declared.names.StreamId.{StreamId}
 use Rattle.split_pass.specs.Spread.{IsChildName}
 use Rattle.split_pass.proofs.Crowding.{both_found, both_too_many, left_child, named_diamond, right_child, too_many_fault, too_many_first, too_many_here, with_diamond, with_none}

@@ -1,6 +1,5 @@
 -- One root after another, the diamonds below it are added.
-use Rattle.std.proofs.Common.{◌≡◌, ◌≢◌, ◌<◌, ◌≤◌, ◌*◌, ◌-◌, ◌∙◌, Err, Some, arith, length, refl, sym, ap}
-use Rattle.std.specs.FinMap.{get}
+use Rattle.std.proofs.Common.{◌<◌, ◌*◌, ◌-◌, ◌∙◌, Err, arith, length, sym, ap}
 use Rattle.std.proofs.lemmas.Result.{err_from_is_err_and}
 use Rattle.tpz_base.specs.Diamonds.{level_of}
 use Rattle.tetra_name.specs.Names.{point_of}

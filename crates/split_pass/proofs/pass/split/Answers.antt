@@ -2,7 +2,6 @@
 use Rattle.std.proofs.Common.{◌≡◌, ◌≤◌, ◌<◌, ◌∙◌, Err, ap, sym, subst, length, List, ℕ}
 use Rattle.std.proofs.lemmas.Result.{err_from_is_err_and}
 use Rattle.tpz_base.specs.declared.shape.Point.{Point}
-use Rattle.tpz_base.specs.Meshes.{Mesh}
 use Rattle.diamond_graph.specs.Graphs.{centres, GraphState}
 use Rattle.diamond_graph.specs.Closed.{closure, IsConforming}
 use Rattle.diamond_graph.proofs.ClosureLaw.{closure_closed}

@@ -1,7 +1,6 @@
 -- The roots are named, and each holds what goes through it.
-use Rattle.std.proofs.Common.{◌≡◌, ◌∙◌, arith, sym, ap, length}
+use Rattle.std.proofs.Common.{arith}
 use Rattle.std.proofs.lemmas.Option.{slice_get_within}
-use Rattle.tri_stream.specs.Streams.{size_of, total}
 use Rattle.tri_stream.proofs.OneStream.{total_of_one}
 use Rattle.split_pass.proofs.Rooting.{live_is_other}
 use Rattle.split_pass.proofs.RootNames.{below_roots, holds_roots, keyed_roots, roots_named, total_roots}

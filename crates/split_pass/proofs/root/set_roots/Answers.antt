@@ -1,5 +1,5 @@
 -- One root more is named.
-use Rattle.std.proofs.Common.{◌≡◌, ◌<◌, arith}
+use Rattle.std.proofs.Common.{◌≡◌, arith}
 use Rattle.split_pass.proofs.RootNames.{names_next, names_none}
 use Rattle.split_pass.proofs.root.set_roots.Goals as goal
 

@@ -1,14 +1,11 @@
 -- A stream is settled, or its children's are.
-use Rattle.std.proofs.Common.{rules, ◌≡◌, ◌≢◌, ◌≤◌, ◌<◌, ◌*◌, ◌∙◌, ℕ, Some, refl, arith, sym, ap, inl, inr, ◌⊎◌}
-use Rattle.std.specs.FinMap.{get}
-use Rattle.std.specs.Option.{unwrap_or}
+use Rattle.std.proofs.Common.{rules, ◌∙◌, sym}
 use Rattle.std.proofs.lemmas.Result.{on_ok_weaker}
-use Rattle.tpz_base.specs.Diamonds.{level_of}
-use Rattle.tetra_name.specs.Names.{point_of, IsName}
+use Rattle.tetra_name.specs.Names.{point_of}
 use Rattle.diamond_graph.specs.Graphs.{centres}
 use Rattle.assign.proofs.LeafLaw.{graph_level}
 use Rattle.split_pass.specs.Spread.{AllBelow}
-use Rattle.split_pass.proofs.Settling.{below_name, settled_both, settled_end, settled_here}
+use Rattle.split_pass.proofs.Settling.{below_name, settled_both, settled_here}
 use Rattle.split_pass.proofs.settle.+settle.Goals as goal
 
 pub returns-then-count-eq0-clause-holds : goal.returns-then-count-eq0-clause-holds

@@ -1,5 +1,5 @@
 -- One name after another is settled.
-use Rattle.std.proofs.Common.{◌≡◌, ◌≤◌, ◌<◌, ◌+◌, ◌∙◌, arith, sym, ap, subst, inl, inr, slice_index_or}
+use Rattle.std.proofs.Common.{◌∙◌, arith, sym, subst, inl, inr, slice_index_or}
 use Rattle.diamond_graph.specs.Graphs.{centres}
 use Rattle.tetra_name.specs.declared.shape.Tet.{Tet}
 use Rattle.split_pass.specs.Spread.{AllBelow, HoldsThrough}
