@@ -1,32 +1,18 @@
 //! The commands of `tpz`, from the words of the command line and the bytes of its devices to a status.
 #![tactic(auto)]
 
-ghost use Rattle.std.specs.Prelude.{◌≡◌, ◌≤◌, ◌⊎◌, ℕ, Option, false, None, map, string_bytes};
+ghost use Rattle.std.specs.Prelude.{◌≡◌, ◌≤◌, ◌⊎◌, ℕ, false, None, Some, map, string_bytes};
 ghost use Rattle.tpz_io.specs.Causes.{Rose};
-ghost use Rattle.patch_file.specs.Asking.{RoseBy};
+ghost use Rattle.command_words.specs.declared.jobs.Job.{Job};
 ghost use Rattle.command_words.specs.Words.{asked};
 ghost use Rattle.puzzle_cli.specs.Touches.{touched_by};
-ghost use Rattle.puzzle_cli.specs.Finest.{AsksFinest};
-ghost use Rattle.puzzle_cli.specs.Build.{AsksBuild};
-ghost use Rattle.puzzle_cli.specs.Gen.{AsksGen};
-ghost use Rattle.puzzle_cli.specs.Info.{AsksInfo};
-ghost use Rattle.puzzle_cli.specs.Replay.{AsksReplay, AsksTour};
-ghost use Rattle.puzzle_cli.specs.Runs.{FinestRun, BuildRun, GenRun, InfoRun, ReplayRun, TourRun};
+ghost use Rattle.puzzle_cli.specs.Shows.{shows};
 
-mod building;
-mod cut_blocks;
-mod cut_order;
-mod export;
-mod finest;
-mod generate;
-mod info;
-mod numbering;
-mod reading;
-mod replaying;
-mod splitting;
-mod touring;
-
-use building::Plan;
+use command_build::{Plan, run_build};
+use command_finest::run_finest;
+use command_gen::run_gen;
+use command_info::run_info;
+use command_replay::{run_replay, run_tour};
 pub use command_words::{Job, WordsFault, read_words};
 pub use run_status::{InputKind, Place, ReadAt, Status};
 use std::alloc::Global;
@@ -61,29 +47,23 @@ pub fn run<I: Source, C: Source, W: Blob, S: Blob, O: Out>(
     ensures same_store { (touched_by (asked (map string_bytes words.now))).store ≡ false → store.new ≡ store.old }
     ensures same_out { (touched_by (asked (map string_bytes words.now))).out ≡ false → out.new ≡ out.old }
 
-    // Each command does what it says.
-    ensures finest { (digits cap : Option ℕ) → AsksFinest words.now digits cap → FinestRun digits cap (I.left input.old) (W.held work.old)
-        (Rose (I.faults input.old) (I.faults input.new)) (Rose (W.faults work.old) (W.faults work.new)) (Rose (O.faults out.old) (O.faults out.new))
-        (O.parts out.old) (O.parts out.new) (O.notes out.old) (O.notes out.new) result }
-    ensures built { (digits : Option ℕ) (cap budget : ℕ) → AsksBuild words.now digits cap budget → BuildRun digits cap budget (I.left input.old) (W.held work.old)
-        (S.held store.old) (S.held store.new) (S.reads store.old) (S.reads store.new) ((input.new ≡ input.old) × (work.new ≡ work.old) × (out.new ≡ out.old))
-        (Rose (I.faults input.old) (I.faults input.new)) (Rose (W.faults work.old) (W.faults work.new)) (Rose (S.faults store.old) (S.faults store.new)) (Rose (O.faults out.old) (O.faults out.new))
-        (O.parts out.old) (O.parts out.new) (O.notes out.old) (O.notes out.new) result }
-    ensures generated { (size : ℕ) → AsksGen words.now size → GenRun size (Rose (O.faults out.old) (O.faults out.new)) (O.parts out.old) (O.parts out.new) (O.notes out.old) (O.notes out.new) result }
-
-    ensures told { (tries : ℕ) → AsksInfo words.now tries → InfoRun tries (S.held store.old) (S.held store.new) (S.outcomes store.new)
-        (RoseBy tries (S.faults store.old) (S.faults store.new)) (Rose (O.faults out.old) (O.faults out.new))
-        (O.parts out.old) (O.parts out.new) (O.notes out.old) (O.notes out.new) result }
-
-    ensures replayed { (tries : ℕ) → AsksReplay words.now tries → ReplayRun tries (C.left script.old) (S.held store.old) (S.held store.new) (S.outcomes store.new) (S.reads store.old) (S.reads store.new)
-        ((script.new ≡ script.old) × (out.new ≡ out.old)) (Rose (C.faults script.old) (C.faults script.new)) (RoseBy tries (S.faults store.old) (S.faults store.new)) (Rose (O.faults out.old) (O.faults out.new))
-        (O.parts out.old) (O.parts out.new) (O.notes out.old) (O.notes out.new) result }
-
-    ensures toured { (digits : Option ℕ) (cap budget tries : ℕ) → AsksTour words.now digits cap budget tries → TourRun digits cap budget tries (I.left input.old) (C.left script.old) (W.held work.old)
-        (S.held store.old) (S.held store.new) (S.outcomes store.new) (S.reads store.old) (S.reads store.new) (S.faults store.old) (S.faults store.new) (O.faults out.old) (O.faults out.new)
-        ((input.new ≡ input.old) × (work.new ≡ work.old) × (out.new ≡ out.old)) (script.new ≡ script.old)
-        (Rose (I.faults input.old) (I.faults input.new)) (Rose (W.faults work.old) (W.faults work.new)) (Rose (C.faults script.old) (C.faults script.new))
-        (O.parts out.old) (O.parts out.new) (O.notes out.old) (O.notes out.new) result }
+    // Each command does what it says: of the job that the words ask for, the run shows what it must.
+    ensures shown { (job : Job) → asked (map string_bytes words.now) ≡ Some job → shows job
+        (record {
+          input = record { left = I.left input.old; faults = I.faults input.old };
+          script = record { left = C.left script.old; faults = C.faults script.old };
+          work = record { held = W.held work.old; reads = W.reads work.old; outcomes = W.outcomes work.old; faults = W.faults work.old };
+          store = record { held = S.held store.old; reads = S.reads store.old; outcomes = S.outcomes store.old; faults = S.faults store.old };
+          out = record { parts = O.parts out.old; notes = O.notes out.old; faults = O.faults out.old };
+        })
+        (record {
+          input = record { left = I.left input.new; faults = I.faults input.new };
+          script = record { left = C.left script.new; faults = C.faults script.new };
+          work = record { held = W.held work.new; reads = W.reads work.new; outcomes = W.outcomes work.new; faults = W.faults work.new };
+          store = record { held = S.held store.new; reads = S.reads store.new; outcomes = S.outcomes store.new; faults = S.faults store.new };
+          out = record { parts = O.parts out.new; notes = O.notes out.new; faults = O.faults out.new };
+        })
+        (record { input = input.new ≡ input.old; script = script.new ≡ script.old; work = work.new ≡ work.old; store = store.new ≡ store.old; out = out.new ≡ out.old }) result }
 
     // A device is blamed only where it failed in this call, and a damaged work file is told only of one that tells nothing.
     ensures input_fault { result ≡ Status.InputFault → Rose (I.faults input.old) (I.faults input.new) }
@@ -99,12 +79,12 @@ pub fn run<I: Source, C: Source, W: Blob, S: Blob, O: Out>(
         Err(WordsFault::Memory) => return Status::Memory,
     };
     match job {
-        Job::Finest { digits, cap } => finest::finest(alloc, digits, cap, input, work, out),
+        Job::Finest { digits, cap } => run_finest(alloc, digits, cap, input, work, out),
         Job::Build {
             digits,
             cap,
             budget,
-        } => building::build_input(
+        } => run_build(
             alloc,
             Plan {
                 digits,
@@ -116,15 +96,15 @@ pub fn run<I: Source, C: Source, W: Blob, S: Blob, O: Out>(
             store,
             out,
         ),
-        Job::Gen { size } => generate::generate(alloc, size, out),
-        Job::Info { tries } => info::info(alloc, tries, store, out),
-        Job::Replay { tries } => replaying::replay(alloc, tries, script, store, out),
+        Job::Gen { size } => run_gen(alloc, size, out),
+        Job::Info { tries } => run_info(alloc, tries, store, out),
+        Job::Replay { tries } => run_replay(alloc, tries, script, store, out),
         Job::Tour {
             digits,
             cap,
             budget,
             tries,
-        } => touring::tour(
+        } => run_tour(
             alloc,
             Plan {
                 digits,

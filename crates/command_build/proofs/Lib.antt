@@ -1,0 +1,2 @@
+pub mod BuildSteps
+pub mod BuildRuns

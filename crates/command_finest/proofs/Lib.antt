@@ -1,0 +1,2 @@
+pub mod FinestItems
+pub mod FinestRuns

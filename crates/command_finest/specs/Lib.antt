@@ -1,0 +1,2 @@
+pub mod Finest
+pub mod FinestRuns

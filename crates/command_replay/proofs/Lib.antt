@@ -1,0 +1,4 @@
+pub mod PlayLaw
+pub mod Progress
+pub mod ReplayRuns
+pub mod TourRuns

@@ -1,0 +1,4 @@
+pub mod Plays
+pub mod Playing
+pub mod Replay
+pub mod ReplayRuns

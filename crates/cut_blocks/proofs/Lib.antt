@@ -1,0 +1,3 @@
+pub mod ShownLaw
+pub mod OpenLaw
+pub mod Opening

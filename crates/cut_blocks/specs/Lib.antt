@@ -1,0 +1,2 @@
+pub mod WrongBlocks
+pub mod Shown

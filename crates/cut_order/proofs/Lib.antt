@@ -1,0 +1,2 @@
+pub mod LeafOrder
+pub mod RootLoops

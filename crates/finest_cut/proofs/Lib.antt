@@ -1,0 +1,2 @@
+pub mod RootCut
+pub mod SplitMesh
