@@ -1,18 +1,20 @@
 -- Around an inner vertex each corner is the next one of a triangle, so the next corners tell of all.
-use Rattle.std.proofs.Common.{◌≡◌, Bool, true, false, ◌&&◌, ◌||◌, [], ◌∷◌, map, refl, sym, ◌∙◌, ap, subst, inl, inr, true≢false}
-use Rattle.std.specs.Prelude.{filter}
+use Rattle.std.proofs.Common.{◌≡◌, ℕ, Bool, true, false, Some, ◌&&◌, ◌||◌, List, [], ◌∷◌, map, refl, sym, ◌∙◌, ap, subst, inl, inr, true≢false}
+use Rattle.std.specs.Prelude.{filter, slice_get}
 use Rattle.std.specs.List.{list_any, list_all}
-use Rattle.std.proofs.lemmas.Bool.{cases_Bool, and_parts, and_from, or_cases, or_left, or_right, false_from_ne_true}
+use Rattle.std.proofs.lemmas.Bool.{cases_Bool, and_parts, and_from, or_cases, or_left, or_right, or_parts, false_from_ne_true}
 use Rattle.tpz_base.specs.declared.shape.Point.{Point}
 use Rattle.tpz_base.specs.declared.shape.Tri.{Tri}
 use Rattle.tpz_base.specs.Lists.{has}
 use Rattle.tpz_base.specs.Points.{point_eq}
-use Rattle.tpz_base.specs.Meshes.{Mesh, is_whole, is_outer, has_corner}
-use Rattle.tpz_base.specs.Collapses.{opposite_edge}
+use Rattle.tpz_base.specs.Meshes.{Mesh, is_whole, is_outer, has_corner, has_vertex}
+use Rattle.tpz_base.specs.Collapses.{opposite_edge, image}
 use Rattle.tpz_base.proofs.PointLemmas.{point_eq-true, point_eq_refl, point_eq_sym}
-use Rattle.edge_collapse.specs.Pairs.{stays_vertex, corners_stay, next_stays}
+use Rattle.edge_collapse.specs.Pairs.{stays_vertex, corners_stay, next_stays, has_after}
 use Rattle.edge_collapse.proofs.LeastLaw.{apart_ab, apart_bc, apart_ca}
-use Rattle.edge_collapse.proofs.StarLaw.{followers_are, others_stay, next_tells}
+use Rattle.patch_mesh.proofs.WalkLaw.{any_found}
+use Rattle.edge_collapse.proofs.Scans.{image_has}
+use Rattle.edge_collapse.proofs.StarLaw.{followers_are, others_stay, next_tells, passed}
 use Rattle.edge_collapse.proofs.FedAfter.{follows}
 
 other : (x y p : Point) → point_eq x y ≡ false → point_eq x p ≡ true → point_eq p y ≡ false
@@ -123,3 +125,58 @@ next_is_enough M u w whole inner =
     both_ways (list_all (next_stays M u w) (filter (has_corner u) M)) (list_all (corners_stay M u w) (filter (has_corner u) M))
     (λ h. corners_of_next M M u w whole inner whole (λ p s. s) (λ p there. all_next_stay M u w p h there) h)
     (next_of_corners M M u w)
+
+differs_from : (x y p : Point) → point_eq x y ≡ false → point_eq x p ≡ true → point_eq y p ≡ false
+differs_from x y p n h = point_eq_sym y p ∙ other x y p n h
+
+-- a triangle at u without w survives, with the corner behind u
+survives_with_next : (u w : Point) (t : Tri) → is_whole t ≡ true → has_corner u t ≡ true → has_corner w t ≡ false → has_after u w (opposite_edge u t).0 t ≡ true
+unfolding has_after
+survives_with_next u w t whole at off =
+    let one = or_parts (point_eq t.a w) (point_eq t.b w || point_eq t.c w) off in
+    let two = or_parts (point_eq t.b w) (point_eq t.c w) one.1 in
+    let ab = apart_ab t whole in
+    let bc = apart_bc t whole in
+    let ca = apart_ca t whole in
+    elim (cases_Bool (point_eq t.a u)) [
+      | inl a ↦
+          let bu : point_eq t.b u ≡ false = differs_from t.a t.b u ab a in
+          let cu : point_eq t.c u ≡ false = differs_from t.a t.c u (point_eq_sym t.a t.c ∙ ca) a in
+          let wb : point_eq w t.b ≡ false = point_eq_sym w t.b ∙ two.0 in
+          rw (a, bu, cu) (rw (wb, bc, two.1, point_eq_refl t.b) refl)
+      | inr a ↦ elim (cases_Bool (point_eq t.b u)) [
+        | inl b ↦
+            let cu : point_eq t.c u ≡ false = differs_from t.b t.c u bc b in
+            let wc : point_eq w t.c ≡ false = point_eq_sym w t.c ∙ two.1 in
+            let ac : point_eq t.a t.c ≡ false = point_eq_sym t.a t.c ∙ ca in
+            rw (a, b, cu) (rw (one.0, wc, ca, ac, point_eq_refl t.c) refl)
+        | inr b ↦
+            let c : point_eq t.c u ≡ true = last (point_eq t.a u) (point_eq t.b u) (point_eq t.c u) a b at in
+            let wa : point_eq w t.a ≡ false = point_eq_sym w t.a ∙ one.0 in
+            rw (a, b, c) (rw (ab, two.0, wa, point_eq_refl t.a) refl)
+      ]
+    ]
+  where
+    last : (x y z : Bool) → x ≡ false → y ≡ false → x || (y || z) ≡ true → z ≡ true
+    last true y z e f h = absurd (true≢false e)
+    last false true z e f h = absurd (true≢false f)
+    last false false z e f h = h
+
+any_among : {X : Type 0} (f p : X → Bool) (xs : List X) → list_any f (filter p xs) ≡ true → list_any f xs ≡ true
+any_among f p [] h = cc
+any_among f p (x ∷ xs) h =
+    elim (cases_Bool (p x)) [
+      | inl e ↦ elim (or_cases (f x) (list_any f (filter p xs)) (rw e at h)) [
+        | inl k ↦ or_left (f x) (list_any f xs) k
+        | inr k ↦ or_right (f x) (list_any f xs) (any_among f p xs k)
+      ]
+      | inr e ↦ let k : list_any f (filter p xs) ≡ true = rw e at h in or_right (f x) (list_any f xs) (any_among f p xs k)
+    ]
+
+-- so the corner behind u stays
+pub stays_without : (M : Mesh) (u w : Point) (i : ℕ) (t : Tri) → slice_get (filter (has_corner u) M) i ≡ Some t → is_whole t ≡ true → has_corner w t ≡ false → next_stays M u w t ≡ true
+stays_without M u w i t e whole off =
+    let q : Point = (opposite_edge u t).0 in
+    let here : has_after u w q t ≡ true = survives_with_next u w t whole (passed (has_corner u) M i t e) off in
+    let some : list_any (has_after u w q) M ≡ true = any_among (has_after u w q) (has_corner u) M (any_found (has_after u w q) (filter (has_corner u) M) i t e here) in
+    next_tells M u w t ∙ or_right (point_eq q u) (has_vertex (image M u w) q) (image_has M u w q ∙ some)
